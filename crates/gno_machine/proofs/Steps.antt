@@ -3,20 +3,24 @@ use Rattle.std.proofs.Common.{◌≡◌, ℕ, zero, suc, ◌<◌, List, [], ◌�
 use Rattle.std.specs.Prelude.{Some, slice_get}
 use Rattle.gno_syntax.specs.declared.tree.FirstFunc.{FirstFunc}
 use Rattle.gno_syntax.specs.Lawful.{AreFuncsIn, IsBodyIn}
+use Rattle.std.proofs.lemmas.Int.{ints}
 use Rattle.gno_base.specs.Number.{Number}
 use Rattle.gno_base.specs.declared.kind.Kind.TheVariants.{Int}
-use Rattle.gno_machine.specs.Meaning.{value_at}
-use Rattle.gno_machine.specs.Ints.{AreInts}
+use Rattle.gno_machine.specs.Meaning.{int_of, value_at}
+use Rattle.gno_machine.specs.Ints.{AreInts, IsInt}
 
-pub AreInts-set : (values : List Number) (n : ℕ) (x : Number) → AreInts values → x.kind ≡ Int → AreInts (set values n x)
+pub AreInts-set : (values : List Number) (n : ℕ) (x : Number) → AreInts values → IsInt x → AreInts (set values n x)
 AreInts-set [] n x p e = p
 AreInts-set (v ∷ vs) zero x p e = (e, p.1)
 AreInts-set (v ∷ vs) (suc n) x p e = (p.0, AreInts-set vs n x p.1 e)
 
-pub kind-value_at : (values : List Number) (n : ℕ) → AreInts values → (value_at values n).kind ≡ Int
-kind-value_at [] n p = refl
-kind-value_at (v ∷ vs) zero p = p.0
-kind-value_at (v ∷ vs) (suc n) p = kind-value_at vs n p.1
+pub zero_int : IsInt (int_of 0)
+zero_int = (refl, (omega (arith, ints), omega (arith, ints)))
+
+pub IsInt-value_at : (values : List Number) (n : ℕ) → AreInts values → IsInt (value_at values n)
+IsInt-value_at [] n p = zero_int
+IsInt-value_at (v ∷ vs) zero p = p.0
+IsInt-value_at (v ∷ vs) (suc n) p = IsInt-value_at vs n p.1
 
 pub body-at : (count : ℕ) (fs : List FirstFunc) (at : ℕ) (f : FirstFunc) → AreFuncsIn count fs → slice_get fs at ≡ Some f → IsBodyIn count f.has_int f.body
 body-at count [] at f l e = cc
