@@ -1,0 +1,4 @@
+pub mod PieceSteps
+pub mod TokenSteps
+pub mod Words
+pub mod Scans
