@@ -1,6 +1,6 @@
 -- The pieces of a text: tokens, blanks and line ends. Go specification, "Tokens".
-use Rattle.std.specs.Prelude.{ℕ, List, [], ◌∷◌, ◌==◌, Bool, true, false, not, ◌&&◌, ◌||◌, codes}
-use Rattle.std.specs.List.{list_all}
+use Rattle.std.specs.Prelude.{ℕ, ◌≡◌, List, [], ◌∷◌, ◌==◌, Bool, true, false, not, ◌&&◌, ◌||◌, codes}
+use Rattle.std.specs.List.{list_all, flat_map}
 use Rattle.gno_syntax.specs.declared.token.Token.{Token}
 use Rattle.gno_syntax.specs.declared.token.Token.TheVariants.{Word, Increment, LeftParen, RightParen, LeftBrace, RightBrace, Semicolon}
 use Rattle.gno_syntax.specs.Names.{is_letter, is_digit}
@@ -59,3 +59,9 @@ begins_with_word (piece ∷ pieces) = is_word_piece piece
 abbrev pub are_apart : List Piece → Bool
 are_apart [] = true
 are_apart (piece ∷ pieces) = not (is_word_piece piece && begins_with_word pieces) && are_apart pieces
+
+-- the text is these pieces, one behind the other
+pub record ArePieces (text : List ℕ) (pieces : List Piece) : Type 0 where
+  pub spelled : text ≡ flat_map spelling pieces
+  pub each : list_all is_piece pieces ≡ true
+  pub longest : are_apart pieces ≡ true

@@ -1,11 +1,10 @@
 -- The tokens of a text. Go specification, "Tokens" and "Semicolons", cut to words, `++`, parentheses, braces and `;`.
 use Rattle.std.specs.Prelude.{ℕ, ◌≡◌, List, [], ◌∷◌, Bool, true, false, not, ◌&&◌, ◌||◌, if◌then◌else◌, codes, take, drop}
-use Rattle.std.specs.List.{list_all, flat_map}
 use Rattle.std.specs.Str.{bytes_eq}
 use Rattle.gno_syntax.specs.declared.token.Token.{Token}
 use Rattle.gno_syntax.specs.declared.token.Token.TheVariants.{Word, Increment, RightParen, RightBrace, Semicolon}
 use Rattle.gno_syntax.specs.Names.{is_among, keywords}
-use Rattle.gno_syntax.specs.Pieces.{Piece, Written, Blank, LineEnd, spelling, is_piece, are_apart}
+use Rattle.gno_syntax.specs.Pieces.{Piece, Written, Blank, LineEnd, ArePieces}
 
 -- a text without the byte order mark that it may begin with
 abbrev pub after_mark : List ℕ → List ℕ
@@ -42,10 +41,8 @@ with_semicolons (LineEnd ∷ pieces) = with_semicolons pieces
 with_semicolons (Blank b ∷ pieces) = with_semicolons pieces
 with_semicolons (Written token ∷ pieces) = token ∷ semicolon_if (is_closing token && is_line_over pieces) (with_semicolons pieces)
 
--- the text is of the first form's pieces, and these are their tokens
+-- the tokens of the text's pieces
 pub record IsTokens (text : List ℕ) (tokens : List Token) : Type 0 where
   pub pieces : List Piece
-  pub spelled : after_mark text ≡ flat_map spelling pieces
-  pub are_pieces : list_all is_piece pieces ≡ true
-  pub longest : are_apart pieces ≡ true
+  pub are_pieces : ArePieces (after_mark text) pieces
   pub tokens_are : tokens ≡ with_semicolons pieces

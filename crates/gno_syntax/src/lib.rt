@@ -6,5 +6,5 @@ mod tokens;
 mod tree;
 
 pub use token::Token;
-pub use tokens::tokens_of;
+pub use tokens::{tokens_law, tokens_of};
 pub use tree::{FirstExpr, FirstFile, FirstFunc, FirstStmt};

@@ -61,6 +61,11 @@ pub fn tokens_of(alloc: Global, text: &[u8]) -> Result<Option<List<Token>>, Allo
     Ok(Some(tokens))
 }
 
+/// A text has the tokens that are found, and no others.
+pub fn tokens_law(text: &[u8])
+    ensures { (tokens : List Token) → (tokens_in text.now ≡ Some tokens) ↔ IsTokens text.now tokens }
+{}
+
 /// What a text has behind its byte order mark.
 fn after_mark(text: &[u8]) -> &[u8]
     ensures { result.now ≡ after_mark text.entry.now }
