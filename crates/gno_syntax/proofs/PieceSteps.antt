@@ -5,7 +5,7 @@ use Rattle.std.specs.List.{list_all}
 use Rattle.std.proofs.lemmas.Bool.Decides.{nat_tests}
 use Rattle.gno_syntax.specs.declared.token.Token.TheVariants.{Word, Increment, LeftParen, RightParen, LeftBrace, RightBrace, Semicolon}
 use Rattle.gno_syntax.specs.Pieces.{Piece, Written, Blank, LineEnd, is_word_byte, is_blank, is_word_piece, begins_with_word, begins_in_word}
-use Rattle.gno_syntax.specs.Reading.{mark_of, piece_of, with_piece, lengthened, pieces_in}
+use Rattle.gno_syntax.specs.Reading.{punctuation_of, piece_of, with_piece, lengthened, pieces_in}
 
 pub plus_no_word : (b : ℕ) → is_word_byte b ≡ true → (b == 43) ≡ false
 unfolding is_word_byte
@@ -44,9 +44,9 @@ none_with None o h = tt
 none_with (Some p) None h = tt
 none_with (Some p) (Some ps) h = h
 
-mark_is_no_word : (b : ℕ) → IfSome (option_map Written (mark_of b)) (λ it. is_word_piece it ≡ false)
-unfolding mark_of
-mark_is_no_word b =
+punctuation_is_no_word : (b : ℕ) → IfSome (option_map Written (punctuation_of b)) (λ it. is_word_piece it ≡ false)
+unfolding punctuation_of
+punctuation_is_no_word b =
     elim (b == 40) as (λ t. IfSome (option_map Written (cond t (Some LeftParen) (cond (b == 41) (Some RightParen) (cond (b == 123) (Some LeftBrace) (cond (b == 125) (Some RightBrace) (cond (b == 59) (Some Semicolon) None)))))) (λ it. is_word_piece it ≡ false)) [
       | true ↦ refl
       | false ↦
@@ -67,10 +67,10 @@ mark_is_no_word b =
 
 piece_is_no_word : (b : ℕ) → IfSome (piece_of b) (λ it. is_word_piece it ≡ false)
 piece_is_no_word b =
-    elim (b == 10) as (λ t. IfSome (cond t (Some LineEnd) (cond (is_blank b) (Some (Blank b)) (option_map Written (mark_of b)))) (λ it. is_word_piece it ≡ false)) [
+    elim (b == 10) as (λ t. IfSome (cond t (Some LineEnd) (cond (is_blank b) (Some (Blank b)) (option_map Written (punctuation_of b)))) (λ it. is_word_piece it ≡ false)) [
       | true ↦ refl
       | false ↦
-          elim (is_blank b) as (λ t. IfSome (cond t (Some (Blank b)) (option_map Written (mark_of b))) (λ it. is_word_piece it ≡ false)) [ true ↦ refl | false ↦ mark_is_no_word b ]
+          elim (is_blank b) as (λ t. IfSome (cond t (Some (Blank b)) (option_map Written (punctuation_of b))) (λ it. is_word_piece it ≡ false)) [ true ↦ refl | false ↦ punctuation_is_no_word b ]
     ]
 
 none_at : (b : ℕ) (bs : List ℕ) → is_word_byte b ≡ false → BeginsWithNone (pieces_in false (b ∷ bs))
@@ -146,6 +146,6 @@ unfolding pieces_in
 at_single b bs p w = rw (p, w) refl
 
 -- a byte of no word, but `+`, blanks and line ends
-pub at_mark : (b : ℕ) (bs : List ℕ) → (b == 43) ≡ false → is_word_byte b ≡ false → (b == 10) ≡ false → is_blank b ≡ false →
-    pieces_in false (b ∷ bs) ≡ with_piece (option_map Written (mark_of b)) (pieces_in false bs)
-at_mark b bs p w l k = at_single b bs p w ∙ rw (l, k) refl
+pub at_punctuation : (b : ℕ) (bs : List ℕ) → (b == 43) ≡ false → is_word_byte b ≡ false → (b == 10) ≡ false → is_blank b ≡ false →
+    pieces_in false (b ∷ bs) ≡ with_piece (option_map Written (punctuation_of b)) (pieces_in false bs)
+at_punctuation b bs p w l k = at_single b bs p w ∙ rw (l, k) refl

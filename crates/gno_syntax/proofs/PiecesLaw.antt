@@ -5,7 +5,7 @@ use Rattle.std.specs.List.{list_all, flat_map}
 use Rattle.std.proofs.lemmas.Bool.Decides.{nat_tests}
 use Rattle.gno_syntax.specs.declared.token.Token.TheVariants.{Word, Increment, LeftParen, RightParen, LeftBrace, RightBrace, Semicolon}
 use Rattle.gno_syntax.specs.Pieces.{Piece, Written, Blank, LineEnd, ArePieces, is_word_byte, is_blank, is_piece, are_apart, spelling, is_word_piece, begins_with_word, begins_in_word}
-use Rattle.gno_syntax.specs.Reading.{mark_of, piece_of, with_piece, lengthened, pieces_in}
+use Rattle.gno_syntax.specs.Reading.{punctuation_of, piece_of, with_piece, lengthened, pieces_in}
 use Rattle.gno_syntax.proofs.PieceSteps.{at_word, at_line_end, at_blank, blank_no_word}
 
 both : (x y : Bool) → (x && y) ≡ true → (x ≡ true) × (y ≡ true)
@@ -25,9 +25,9 @@ record IsSingle (b : ℕ) (piece : Piece) : Type 0 where
 Singles : ℕ → Option Piece → Type 0
 Singles b piece = IfSome piece (IsSingle b)
 
-single_mark : (b : ℕ) → Singles b (option_map Written (mark_of b))
-unfolding mark_of Singles
-single_mark b = at_paren (b == 40) refl
+single_punctuation : (b : ℕ) → Singles b (option_map Written (punctuation_of b))
+unfolding punctuation_of Singles
+single_punctuation b = at_paren (b == 40) refl
   where
     at_semicolon : (t : Bool) → (b == 59) ≡ t → Singles b (option_map Written (cond t (Some Semicolon) None))
     at_semicolon true e = record { spelled = ap (λ c. c ∷ []) (sym (same_byte b 59 e)); is_one = refl; no_word = refl }
@@ -53,11 +53,11 @@ single_piece : (b : ℕ) → Singles b (piece_of b)
 unfolding Singles
 single_piece b = at_line_end (b == 10) refl
   where
-    at_blank : (t : Bool) → is_blank b ≡ t → Singles b (cond t (Some (Blank b)) (option_map Written (mark_of b)))
+    at_blank : (t : Bool) → is_blank b ≡ t → Singles b (cond t (Some (Blank b)) (option_map Written (punctuation_of b)))
     at_blank true e = record { spelled = refl; is_one = e; no_word = refl }
-    at_blank false e = single_mark b
+    at_blank false e = single_punctuation b
 
-    at_line_end : (t : Bool) → (b == 10) ≡ t → Singles b (cond t (Some LineEnd) (cond (is_blank b) (Some (Blank b)) (option_map Written (mark_of b))))
+    at_line_end : (t : Bool) → (b == 10) ≡ t → Singles b (cond t (Some LineEnd) (cond (is_blank b) (Some (Blank b)) (option_map Written (punctuation_of b))))
     at_line_end true e = record { spelled = ap (λ c. c ∷ []) (sym (same_byte b 10 e)); is_one = refl; no_word = refl }
     at_line_end false e = at_blank (is_blank b) refl
 
@@ -158,7 +158,7 @@ negated false e = refl
 
 -- each list of pieces is found
 pub only_pieces : (ps : List Piece) → list_all is_piece ps ≡ true → are_apart ps ≡ true → pieces_in false (flat_map spelling ps) ≡ Some ps
-unfolding pieces_in is_word_byte is_blank mark_of
+unfolding pieces_in is_word_byte is_blank punctuation_of
 only_pieces [] a l = refl
 only_pieces (Written (Word []) ∷ ps) a l = absurd (cc a)
 only_pieces (Written (Word (b ∷ w)) ∷ ps) a l =

@@ -9,10 +9,10 @@ use Rattle.gno_syntax.specs.declared.token.Token.TheVariants.{Word, Increment}
 use Rattle.gno_syntax.specs.declared.tokens.Scanner.{Scanner}
 use Rattle.gno_syntax.specs.Pieces.{is_blank, is_word_byte, begins_in_word}
 use Rattle.gno_syntax.specs.Tokens.{is_closing, semicolon_if, after_mark}
-use Rattle.gno_syntax.specs.Reading.{mark_of, tokens_in}
+use Rattle.gno_syntax.specs.Reading.{punctuation_of, tokens_in}
 use Rattle.gno_syntax.specs.Scanning.{HasRead, tokens_with, all_tokens}
-use Rattle.gno_syntax.proofs.TokenSteps.{tokens_blank, tokens_line_end, tokens_end, tokens_word, tokens_mark, tokens_other, tokens_increment, tokens_plus_alone, tokens_plus_last}
-use Rattle.gno_syntax.proofs.Words.{shorter_behind}
+use Rattle.gno_syntax.proofs.TokenSteps.{tokens_blank, tokens_line_end, tokens_end, tokens_word, tokens_punctuation, tokens_other, tokens_increment, tokens_plus_alone, tokens_plus_last}
+use Rattle.gno_syntax.proofs.Fronts.{shorter_behind}
 
 same_tokens : (ts ts' : List Token) (c c' : Bool) (rest rest' : List ℕ) → ts' ≡ ts → c' ≡ c → rest' ≡ rest → tokens_with ts c rest ≡ tokens_with ts' c' rest'
 same_tokens ts ts' c c' rest rest' t d r = cc
@@ -45,12 +45,12 @@ read_word s s' w h front rest ts c =
     let short = shorter_behind s.rest.now h in
     read_token s s' (Word w) (tokens_word s.tokens s.is_closed s.rest.now h ∙ cc) ts c (rw rest short)
 
-pub read_mark : (s s' : Scanner) (b : ℕ) (t : Token) → s.rest.now ≡ b ∷ s'.rest.now → (b == 43) ≡ false → is_word_byte b ≡ false → (b == 10) ≡ false → is_blank b ≡ false → mark_of b ≡ Some t →
+pub read_punctuation : (s s' : Scanner) (b : ℕ) (t : Token) → s.rest.now ≡ b ∷ s'.rest.now → (b == 43) ≡ false → is_word_byte b ≡ false → (b == 10) ≡ false → is_blank b ≡ false → punctuation_of b ≡ Some t →
     s'.tokens ≡ s.tokens ++ t ∷ [] → s'.is_closed ≡ is_closing t → HasRead s s' true
-read_mark s s' b t e p w l k m ts c =
-    read_token s s' t (ap (tokens_with s.tokens s.is_closed) e ∙ tokens_mark s.tokens s.is_closed b s'.rest.now t p w l k m) ts c (shorter_by_one _ _ b e)
+read_punctuation s s' b t e p w l k m ts c =
+    read_token s s' t (ap (tokens_with s.tokens s.is_closed) e ∙ tokens_punctuation s.tokens s.is_closed b s'.rest.now t p w l k m) ts c (shorter_by_one _ _ b e)
 
-pub read_other : (s s' : Scanner) (b : ℕ) (rest : List ℕ) → s.rest.now ≡ b ∷ rest → (b == 43) ≡ false → is_word_byte b ≡ false → (b == 10) ≡ false → is_blank b ≡ false → mark_of b ≡ None → HasRead s s' false
+pub read_other : (s s' : Scanner) (b : ℕ) (rest : List ℕ) → s.rest.now ≡ b ∷ rest → (b == 43) ≡ false → is_word_byte b ≡ false → (b == 10) ≡ false → is_blank b ≡ false → punctuation_of b ≡ None → HasRead s s' false
 read_other s s' b rest e p w l k m = read_none s s' (ap (tokens_with s.tokens s.is_closed) e ∙ tokens_other s.tokens s.is_closed b rest p w l k m)
 
 pub is_empty : (text : List ℕ) → length text < 1 → text ≡ []

@@ -7,10 +7,10 @@ use Rattle.gno_syntax.specs.declared.token.Token.{Token}
 use Rattle.gno_syntax.specs.declared.token.Token.TheVariants.{Word, Increment, Semicolon}
 use Rattle.gno_syntax.specs.Pieces.{Piece, Written, Blank, LineEnd, is_word_byte, is_blank, begins_in_word}
 use Rattle.gno_syntax.specs.Tokens.{is_closing, is_line_over, semicolon_if, with_semicolons}
-use Rattle.gno_syntax.specs.Reading.{mark_of, with_piece, pieces_in}
+use Rattle.gno_syntax.specs.Reading.{punctuation_of, with_piece, pieces_in}
 use Rattle.gno_syntax.specs.Scanning.{tokens_with}
-use Rattle.gno_syntax.proofs.PieceSteps.{at_word, at_line_end, at_blank, at_increment, at_plus_alone, at_plus_last, at_mark}
-use Rattle.gno_syntax.proofs.Words.{take_front, drop_front, front_passes, none_behind}
+use Rattle.gno_syntax.proofs.PieceSteps.{at_word, at_line_end, at_blank, at_increment, at_plus_alone, at_plus_last, at_punctuation}
+use Rattle.gno_syntax.proofs.Fronts.{take_front, drop_front, front_passes, none_behind}
 
 abbrev all_of : List Token → Bool → Option (List Piece) → Option (List Token)
 all_of ts c pieces = option_map (λ it. ts ++ semicolon_if (c && is_line_over it) (with_semicolons it)) pieces
@@ -58,15 +58,15 @@ pub tokens_plus_last : (ts : List Token) (c : Bool) → tokens_with ts c (43 ∷
 unfolding tokens_with
 tokens_plus_last ts c = ap (all_of ts c) at_plus_last
 
-pub tokens_mark : (ts : List Token) (c : Bool) (b : ℕ) (rest : List ℕ) (t : Token) → (b == 43) ≡ false → is_word_byte b ≡ false → (b == 10) ≡ false → is_blank b ≡ false → mark_of b ≡ Some t →
+pub tokens_punctuation : (ts : List Token) (c : Bool) (b : ℕ) (rest : List ℕ) (t : Token) → (b == 43) ≡ false → is_word_byte b ≡ false → (b == 10) ≡ false → is_blank b ≡ false → punctuation_of b ≡ Some t →
     tokens_with ts c (b ∷ rest) ≡ tokens_with (ts ++ t ∷ []) (is_closing t) rest
 unfolding tokens_with
-tokens_mark ts c b rest t p w l k m = ap (all_of ts c) (at_mark b rest p w l k ∙ ap (λ it. with_piece (option_map Written it) (pieces_in false rest)) m) ∙ all_at_token ts c t (pieces_in false rest)
+tokens_punctuation ts c b rest t p w l k m = ap (all_of ts c) (at_punctuation b rest p w l k ∙ ap (λ it. with_piece (option_map Written it) (pieces_in false rest)) m) ∙ all_at_token ts c t (pieces_in false rest)
 
-pub tokens_other : (ts : List Token) (c : Bool) (b : ℕ) (rest : List ℕ) → (b == 43) ≡ false → is_word_byte b ≡ false → (b == 10) ≡ false → is_blank b ≡ false → mark_of b ≡ None →
+pub tokens_other : (ts : List Token) (c : Bool) (b : ℕ) (rest : List ℕ) → (b == 43) ≡ false → is_word_byte b ≡ false → (b == 10) ≡ false → is_blank b ≡ false → punctuation_of b ≡ None →
     tokens_with ts c (b ∷ rest) ≡ None
 unfolding tokens_with
-tokens_other ts c b rest p w l k m = ap (all_of ts c) (at_mark b rest p w l k ∙ ap (λ it. with_piece (option_map Written it) (pieces_in false rest)) m)
+tokens_other ts c b rest p w l k m = ap (all_of ts c) (at_punctuation b rest p w l k ∙ ap (λ it. with_piece (option_map Written it) (pieces_in false rest)) m)
 
 -- a word from its first byte on
 pub tokens_word : (ts : List Token) (c : Bool) (text : List ℕ) → begins_in_word text ≡ true →

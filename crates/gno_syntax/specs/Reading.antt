@@ -6,8 +6,8 @@ use Rattle.gno_syntax.specs.Pieces.{Piece, Written, Blank, LineEnd, is_word_byte
 use Rattle.gno_syntax.specs.Tokens.{after_mark, with_semicolons}
 
 -- the token of one byte that belongs to no word
-unfoldable pub mark_of : ℕ → Option Token
-mark_of b =
+unfoldable pub punctuation_of : ℕ → Option Token
+punctuation_of b =
     if b == 40 then Some LeftParen
     else (if b == 41 then Some RightParen
     else (if b == 123 then Some LeftBrace
@@ -16,7 +16,7 @@ mark_of b =
 
 -- the piece of one byte that belongs to no word
 abbrev pub piece_of : ℕ → Option Piece
-piece_of b = if b == 10 then Some LineEnd else (if is_blank b then Some (Blank b) else option_map Written (mark_of b))
+piece_of b = if b == 10 then Some LineEnd else (if is_blank b then Some (Blank b) else option_map Written (punctuation_of b))
 
 abbrev pub with_piece : Option Piece → Option (List Piece) → Option (List Piece)
 with_piece (Some piece) (Some pieces) = Some (piece ∷ pieces)

@@ -4,6 +4,7 @@
 mod token;
 mod tokens;
 mod tree;
+mod words;
 
 pub use token::Token;
 pub use tokens::{tokens_law, tokens_of};

@@ -1,49 +1,19 @@
 // The tokens of a text.
-ghost use Rattle.std.specs.Prelude.{ℕ, ◌≡◌, ◌<◌, ◌≤◌, ◌+◌, ◌↔◌, List, [], ◌∷◌, ◌++◌, ◌==◌, length, take, drop, true, false, not, Some, None, IfOk, OnOk, ◌||◌, if◌then◌else◌};
-ghost use Rattle.std.specs.List.{prefix_len, list_any};
-ghost use Rattle.std.specs.Str.{bytes_eq};
-ghost use Rattle.gno_syntax.specs.Names.{is_among, keywords};
+ghost use Rattle.std.specs.Prelude.{◌≡◌, ◌↔◌, ◌==◌, List, [], ◌∷◌, ◌++◌, true, false, Some, IfOk, OnOk};
 ghost use Rattle.gno_syntax.specs.Pieces.{is_word_byte, is_blank, begins_in_word};
-ghost use Rattle.gno_syntax.specs.Tokens.{after_mark, closing_keywords, is_closing, semicolon_if, IsTokens};
-ghost use Rattle.gno_syntax.specs.Reading.{mark_of, tokens_in};
+ghost use Rattle.gno_syntax.specs.Tokens.{after_mark, is_closing, semicolon_if, IsTokens};
+ghost use Rattle.gno_syntax.specs.Reading.{punctuation_of, tokens_in};
 ghost use Rattle.gno_syntax.specs.Scanning.{tokens_with, all_tokens, HasRead};
 
+#[cfg(test)]
+mod tests;
+
 use crate::Token;
+use crate::words::{front_word, is_closing_keyword, is_keyword, is_word_byte};
 use gno_base::{Bytes, List};
 use std::alloc::{AllocError, Global};
 
 const BYTE_ORDER_MARK: [u8; 3] = [0xef, 0xbb, 0xbf];
-
-const KEYWORDS: [&str; 25] = [
-    "break",
-    "case",
-    "chan",
-    "const",
-    "continue",
-    "default",
-    "defer",
-    "else",
-    "fallthrough",
-    "for",
-    "func",
-    "go",
-    "goto",
-    "if",
-    "import",
-    "interface",
-    "map",
-    "package",
-    "range",
-    "return",
-    "select",
-    "struct",
-    "switch",
-    "type",
-    "var",
-];
-
-/// Those behind which a semicolon is inserted at a line's end.
-const CLOSING_KEYWORDS: [&str; 4] = ["break", "continue", "fallthrough", "return"];
 
 /// The tokens of a text, the inserted semicolons among them. None where it has other bytes than those of the first
 /// form's tokens, or a `+` alone.
@@ -65,86 +35,6 @@ pub fn tokens_of(alloc: Global, text: &[u8]) -> Result<Option<List<Token>>, Allo
 pub fn tokens_law(text: &[u8])
     ensures { (tokens : List Token) → (tokens_in text.now ≡ Some tokens) ↔ IsTokens text.now tokens }
 {}
-
-/// What a text has behind its byte order mark.
-fn after_mark(text: &[u8]) -> &[u8]
-    ensures { result.now ≡ after_mark text.entry.now }
-{
-    text.strip_prefix(BYTE_ORDER_MARK.as_slice())
-        .unwrap_or(text)
-}
-
-#[tactic(auto, unfolding(crate::specs::Pieces::is_word_byte))]
-fn is_word_byte(b: u8) -> bool
-    ensures { result ≡ is_word_byte b }
-{
-    b.is_ascii_uppercase() || b.is_ascii_lowercase() || b.is_ascii_digit() || b == b'_'
-}
-
-#[tactic(auto, unfolding(crate::specs::Pieces::is_blank))]
-fn is_blank(b: u8) -> bool
-    ensures { result ≡ is_blank b }
-{
-    b == b' ' || b == b'\t' || b == b'\r'
-}
-
-/// The token that is this byte.
-#[tactic(auto, unfolding(crate::specs::Reading::mark_of))]
-fn mark_of(b: u8) -> Option<Token>
-    ensures { result ≡ mark_of b }
-{
-    match b {
-        b'(' => Some(Token::LeftParen),
-        b')' => Some(Token::RightParen),
-        b'{' => Some(Token::LeftBrace),
-        b'}' => Some(Token::RightBrace),
-        b';' => Some(Token::Semicolon),
-        _ => None,
-    }
-}
-
-fn is_among(words: &[&str], word: &[u8]) -> bool
-    ensures { result ≡ list_any (λ it. bytes_eq word.now it.now) words.now }
-{
-    words.iter().any(|it| word == it.as_bytes())
-}
-
-fn is_keyword(word: &[u8]) -> bool
-    ensures { result ≡ is_among keywords word.now }
-{
-    is_among(KEYWORDS.as_slice(), word)
-}
-
-fn is_closing_keyword(word: &[u8]) -> bool
-    ensures { result ≡ is_among closing_keywords word.now }
-{
-    is_among(CLOSING_KEYWORDS.as_slice(), word)
-}
-
-/// Whether a line's end behind it inserts a semicolon.
-#[tactic(auto, unfolding(crate::specs::Tokens::is_closing))]
-fn is_closing(token: &Token) -> bool
-    ensures { result ≡ is_closing token.now }
-{
-    match token {
-        Token::Word(word) => !is_keyword(word.as_slice()) || is_closing_keyword(word.as_slice()),
-        Token::Increment | Token::RightParen | Token::RightBrace => true,
-        Token::LeftParen | Token::LeftBrace | Token::Semicolon => false,
-    }
-}
-
-/// The word bytes at a text's front, and what stands behind them.
-#[tactic(auto, using(crate::proofs::Words::steps))]
-fn front_word(text: &[u8]) -> (&[u8], &[u8])
-    ensures word { result.0.now ≡ take (prefix_len is_word_byte text.entry.now) text.entry.now }
-    ensures rest { result.1.now ≡ drop (prefix_len is_word_byte text.entry.now) text.entry.now }
-{
-    let mut end = 0;
-    while end < text.len() && is_word_byte(text[end]) {
-        end += 1;
-    }
-    text.split_at(end)
-}
 
 /// A place in a text, and the tokens before it.
 #[derive(Drop)]
@@ -188,7 +78,7 @@ impl<'a> Scanner<'a> {
             self.rest = rest;
             return Ok(true);
         }
-        self.read_mark(b, rest)
+        self.read_punctuation(b, rest)
     }
 
     /// Reads the word that begins here.
@@ -220,7 +110,7 @@ impl<'a> Scanner<'a> {
     }
 
     /// Reads the token that is the byte `b`. False where there is none.
-    fn read_mark(&mut self, b: u8, rest: &'a [u8]) -> Result<bool, AllocError>
+    fn read_punctuation(&mut self, b: u8, rest: &'a [u8]) -> Result<bool, AllocError>
         requires text { self.old.rest.now ≡ b ∷ rest.now }
         requires no_plus { (b == 43) ≡ false }
         requires no_line_end { (b == 10) ≡ false }
@@ -228,7 +118,7 @@ impl<'a> Scanner<'a> {
         requires no_blank { is_blank b ≡ false }
         ensures { IfOk result (λ found. HasRead self.old self.new found) }
     {
-        let Some(token) = mark_of(b) else {
+        let Some(token) = punctuation_of(b) else {
             return Ok(false);
         };
         self.push(token)?;
@@ -256,5 +146,47 @@ impl<'a> Scanner<'a> {
             self.push(Token::Semicolon)?;
         }
         Ok(())
+    }
+}
+
+/// What a text has behind its byte order mark.
+fn after_mark(text: &[u8]) -> &[u8]
+    ensures { result.now ≡ after_mark text.entry.now }
+{
+    text.strip_prefix(BYTE_ORDER_MARK.as_slice())
+        .unwrap_or(text)
+}
+
+#[tactic(auto, unfolding(crate::specs::Pieces::is_blank))]
+fn is_blank(b: u8) -> bool
+    ensures { result ≡ is_blank b }
+{
+    b == b' ' || b == b'\t' || b == b'\r'
+}
+
+/// The token that is this byte.
+#[tactic(auto, unfolding(crate::specs::Reading::punctuation_of))]
+fn punctuation_of(b: u8) -> Option<Token>
+    ensures { result ≡ punctuation_of b }
+{
+    match b {
+        b'(' => Some(Token::LeftParen),
+        b')' => Some(Token::RightParen),
+        b'{' => Some(Token::LeftBrace),
+        b'}' => Some(Token::RightBrace),
+        b';' => Some(Token::Semicolon),
+        _ => None,
+    }
+}
+
+/// Whether a line's end behind it inserts a semicolon.
+#[tactic(auto, unfolding(crate::specs::Tokens::is_closing))]
+fn is_closing(token: &Token) -> bool
+    ensures { result ≡ is_closing token.now }
+{
+    match token {
+        Token::Word(word) => !is_keyword(word.as_slice()) || is_closing_keyword(word.as_slice()),
+        Token::Increment | Token::RightParen | Token::RightBrace => true,
+        Token::LeftParen | Token::LeftBrace | Token::Semicolon => false,
     }
 }

@@ -1,7 +1,7 @@
 use Rattle.std.proofs.Common.{◌≡◌, ◌≤◌, ◌+◌, ◌-◌, length, drop}
 use Rattle.std.specs.List.{prefix_len}
 use Rattle.gno_syntax.specs.Pieces.{is_word_byte}
-use Rattle.gno_syntax.proofs.tokens.front_word.Given as goal
+use Rattle.gno_syntax.proofs.words.front_word.Given as goal
 
 abbrev pub invariant-loop-end : goal.invariant-loop-end
 invariant-loop-end l = record {
