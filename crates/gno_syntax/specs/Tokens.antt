@@ -6,7 +6,7 @@ use Rattle.gno_syntax.specs.declared.token.Token.TheVariants.{Word, Increment, R
 use Rattle.gno_syntax.specs.Names.{is_among, keywords}
 use Rattle.gno_syntax.specs.Pieces.{Piece, Written, Blank, LineEnd, ArePieces}
 
--- a text without the byte order mark that it may begin with
+-- A text without the byte order mark that it may begin with. Go specification, "Source code representation".
 abbrev pub after_mark : List ℕ → List ℕ
 after_mark text = if bytes_eq (take 3 text) (239 ∷ 187 ∷ 191 ∷ []) then drop 3 text else text
 
@@ -22,7 +22,7 @@ is_closing RightParen = true
 is_closing RightBrace = true
 is_closing token = false
 
--- nothing but blanks stands before the line's end
+-- nothing but blanks stands before the end of the line or of the text
 abbrev pub is_line_over : List Piece → Bool
 is_line_over [] = true
 is_line_over (LineEnd ∷ pieces) = true
@@ -34,7 +34,7 @@ abbrev pub semicolon_if : Bool → List Token → List Token
 semicolon_if true tokens = Semicolon ∷ tokens
 semicolon_if false tokens = tokens
 
--- the tokens among the pieces, with the inserted semicolons
+-- The tokens among the pieces. Behind a closing token that is the last of its line stands a semicolon.
 abbrev pub with_semicolons : List Piece → List Token
 with_semicolons [] = []
 with_semicolons (LineEnd ∷ pieces) = with_semicolons pieces
