@@ -1,0 +1,6 @@
+pub mod FirstLine
+pub mod Cuts
+pub mod Budgets
+pub mod Options
+pub mod FirstWords
+pub mod Runs
