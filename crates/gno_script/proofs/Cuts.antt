@@ -1,5 +1,5 @@
 -- Cutting a line at its spaces.
-use Rattle.std.proofs.Common.{◌≡◌, ℕ, ◌+◌, ◌<◌, ◌≤◌, List, [], ◌∷◌, ◌++◌, refl, arith, ap, ◌∙◌, sym, length, take, drop, get_or, add-one, zero, suc, eq-eqb, ne_eqb, cond, eqb, Bool, true, false, ◌-◌, ◌≢◌, ◌^◌, subst, inl, inr}
+use Rattle.std.proofs.Common.{◌≡◌, ℕ, ◌+◌, ◌<◌, List, [], ◌∷◌, ◌++◌, refl, arith, ap, ◌∙◌, sym, length, take, drop, get_or, add-one, zero, suc, eq-eqb, ne_eqb, cond, eqb, true, ◌-◌, ◌≢◌, subst, inl, inr}
 use Rattle.std.specs.Str.Parse.{AllDigits}
 use Rattle.std.specs.Fmt.{decimal}
 use Rattle.std.proofs.lemmas.Fmt.{decimal_is_IsNumeral}
@@ -9,7 +9,7 @@ use Rattle.std.proofs.lemmas.Option.{none-some, some_pair_parts}
 use Rattle.gno_script.specs.Words.{is_word, is_visible, is_lower, is_caller, IsBudget}
 use Rattle.gno_script.proofs.Options.{mapped, chosen}
 use Rattle.std.proofs.lemmas.List.{take_rest}
-use Rattle.std.specs.Prelude.{Option, Some, None, nat_le, ◌&&◌, ◌⊎◌}
+use Rattle.std.specs.Prelude.{Option, Some, None}
 use Rattle.std.specs.Option.{option_map}
 use Rattle.std.specs.List.{list_all}
 use Rattle.std.proofs.lemmas.Bool.Decides.{nat_tests, Decides-eqb}
@@ -56,10 +56,10 @@ unfolding cut
 cut-is [] word rest e = absurd (none-some (word, rest) e)
 cut-is (b ∷ bs) word rest e =
     elim (chosen (eqb b 32) (Some ([], bs)) (before b (cut bs)) (Some (word, rest)) e) [
-      inl h ↦ (let p = some_pair_parts [] word bs rest h.1 in let s : b ≡ 32 = (Decides-eqb b 32).0 h.0 in cc)
-    | inr h ↦ (
-        let m = mapped (λ (parts : List ℕ × List ℕ). (b ∷ parts.0, parts.1)) (cut bs) (word, rest) h.1 in
-        ap (λ t. b ∷ t) (cut-is bs m.0.0 m.0.1 m.1) ∙ ap (λ (p : List ℕ × List ℕ). p.0 ++ 32 ∷ p.1) m.2)
+      | inl h ↦ (let p = some_pair_parts [] word bs rest h.1 in let s : b ≡ 32 = (Decides-eqb b 32).0 h.0 in cc)
+      | inr h ↦ (
+          let m = mapped (λ (parts : List ℕ × List ℕ). (b ∷ parts.0, parts.1)) (cut bs) (word, rest) h.1 in
+          ap (λ t. b ∷ t) (cut-is bs m.0.0 m.0.1 m.1) ∙ ap (λ (p : List ℕ × List ℕ). p.0 ++ 32 ∷ p.1) m.2)
     ]
 
 pub visible-unspaced : (word : List ℕ) → list_all is_visible word ≡ true → Unspaced word

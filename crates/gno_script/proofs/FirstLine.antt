@@ -1,5 +1,5 @@
 -- The first line of a text.
-use Rattle.std.proofs.Common.{◌≡◌, ℕ, ◌+◌, ◌<◌, List, [], ◌∷◌, refl, arith, ap, ◌∙◌, sym, length, take, drop, get_or, add-one, zero, suc, eq-eqb, ne_eqb, cond, eqb, ◌-◌}
+use Rattle.std.proofs.Common.{◌≡◌, ℕ, ◌+◌, ◌<◌, List, [], ◌∷◌, arith, ap, ◌∙◌, length, take, drop, get_or, add-one, zero, suc, eq-eqb, ne_eqb, cond, ◌-◌}
 use Rattle.std.proofs.lemmas.List.{take_rest}
 use Rattle.gno_script.specs.Lines.{onto, lines_of}
 

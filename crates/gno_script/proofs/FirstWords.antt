@@ -1,14 +1,13 @@
 -- The first lines of items, both ways.
-use Rattle.std.proofs.Common.{◌≡◌, ℕ, ◌+◌, ◌<◌, List, [], ◌∷◌, ◌++◌, refl, arith, rules, ap, ◌∙◌, sym, cond, eqb, Bool, true, false, subst, inl, inr}
-use Rattle.std.specs.Prelude.{Option, Some, None, ◌&&◌, ◌⊎◌, codes}
+use Rattle.std.proofs.Common.{◌≡◌, ℕ, List, [], ◌∷◌, ◌++◌, refl, ap, ◌∙◌, sym, true, subst, inl, inr}
+use Rattle.std.specs.Prelude.{Some, ◌&&◌, codes}
 use Rattle.std.specs.Option.{option_map}
 use Rattle.std.specs.Str.{bytes_eq}
 use Rattle.std.proofs.lemmas.Bool.{and_parts}
 use Rattle.std.proofs.lemmas.Option.{same_Some}
 use Rattle.std.proofs.lemmas.Slice.Eq.{bytes_eq-Decides}
 use Rattle.gno_script.specs.declared.heading.Heading.{Heading}
-use Rattle.gno_script.specs.declared.stage.Stage.{Stage}
-use Rattle.gno_script.specs.declared.stage.Stage.TheVariants.{Between, Called, Added, Filed}
+use Rattle.gno_script.specs.declared.stage.Stage.TheVariants.{Called, Added}
 use Rattle.gno_script.specs.declared.stage.Step.{Step}
 use Rattle.gno_script.specs.Words.{is_word, is_caller, is_file_name, IsBudget}
 use Rattle.gno_script.specs.Script.{spaced, IsCallLine, IsAddLine, IsFileLine}
@@ -50,8 +49,13 @@ pub call_of-is : (number caller path function : List ℕ) (budget : ℕ) → IsB
     call_of (spaced (number ∷ caller ∷ path ∷ function ∷ [])) ≡ Some (heading budget caller path, function)
 unfolding call_of
 call_of-is number caller path function budget b c p f =
-    rw (cut-word number (caller ++ 32 ∷ (path ++ 32 ∷ function)) (budget-unspaced number budget b), cut-word caller (path ++ 32 ∷ function) (caller-unspaced caller c),
-    cut-word path function (word-unspaced path p), f, heading_of-is number caller path budget b c p) refl
+    rw (
+      cut-word number (caller ++ 32 ∷ (path ++ 32 ∷ function)) (budget-unspaced number budget b),
+      cut-word caller (path ++ 32 ∷ function) (caller-unspaced caller c),
+      cut-word path function (word-unspaced path p),
+      f,
+      heading_of-is number caller path budget b c p,
+    ) refl
 
 pub add_of-tells : (words : List ℕ) (h : Heading) → add_of words ≡ Some h →
     (number : List ℕ) × Heads number h.caller h.path h × (words ≡ spaced (number ∷ h.caller ∷ h.path ∷ []))
@@ -63,9 +67,11 @@ add_of-tells words h e =
     let w = cut-is words n.0.0 n.0.1 n.1 in
     let v = cut-is n.0.1 c.0.0 c.0.1 c.1 in
     let sc : c.0.0 ≡ h.caller = ap (λ (x : Heading). x.caller) t.same in
-    let sp : c.0.1 ≡ h.path = ap (λ (x : Heading). x.path) t.same in
-    (n.0.0, record { budget_is = t.budget_is; caller_is = ap is_caller (sym sc) ∙ t.caller_is; path_is = ap is_word (sym sp) ∙ t.path_is; same = refl },
-    w ∙ ap (λ r. n.0.0 ++ 32 ∷ r) (v ∙ ap (λ a. a ++ 32 ∷ c.0.1) sc ∙ ap (λ b. h.caller ++ 32 ∷ b) sp))
+    let sp : c.0.1 ≡ h.path = ap (λ (x : Heading). x.path) t.same in (
+      n.0.0,
+      record { budget_is = t.budget_is; caller_is = ap is_caller (sym sc) ∙ t.caller_is; path_is = ap is_word (sym sp) ∙ t.path_is; same = refl },
+      w ∙ ap (λ r. n.0.0 ++ 32 ∷ r) (v ∙ ap (λ a. a ++ 32 ∷ c.0.1) sc ∙ ap (λ b. h.caller ++ 32 ∷ b) sp),
+    )
 
 pub call_of-tells : (words : List ℕ) (h : Heading) (function : List ℕ) → call_of words ≡ Some (h, function) →
     (number : List ℕ) × Heads number h.caller h.path h × (is_word function ≡ true) × (words ≡ spaced (number ∷ h.caller ∷ h.path ∷ function ∷ []))
@@ -83,10 +89,12 @@ call_of-tells words h function e =
     let sp : p.0.0 ≡ h.path = ap (λ (x : Heading). x.path) (t.same ∙ sh) in
     let w = cut-is words n.0.0 n.0.1 n.1 in
     let v = cut-is n.0.1 c.0.0 c.0.1 c.1 in
-    let u = cut-is c.0.1 p.0.0 p.0.1 p.1 in
-    (n.0.0, record { budget_is = subst (λ (x : Heading). IsBudget n.0.0 x.budget) sh t.budget_is; caller_is = ap is_caller (sym sc) ∙ t.caller_is; path_is = ap is_word (sym sp) ∙ t.path_is; same = refl },
-    ap is_word (sym sf) ∙ k.0,
-    w ∙ ap (λ r. n.0.0 ++ 32 ∷ r) (v ∙ ap (λ a. a ++ 32 ∷ c.0.1) sc ∙ ap (λ b. h.caller ++ 32 ∷ b) (u ∙ ap (λ a. a ++ 32 ∷ p.0.1) sp ∙ ap (λ b. h.path ++ 32 ∷ b) sf)))
+    let u = cut-is c.0.1 p.0.0 p.0.1 p.1 in (
+      n.0.0,
+      record { budget_is = subst (λ (x : Heading). IsBudget n.0.0 x.budget) sh t.budget_is; caller_is = ap is_caller (sym sc) ∙ t.caller_is; path_is = ap is_word (sym sp) ∙ t.path_is; same = refl },
+      ap is_word (sym sf) ∙ k.0,
+      w ∙ ap (λ r. n.0.0 ++ 32 ∷ r) (v ∙ ap (λ a. a ++ 32 ∷ c.0.1) sc ∙ ap (λ b. h.caller ++ 32 ∷ b) (u ∙ ap (λ a. a ++ 32 ∷ p.0.1) sp ∙ ap (λ b. h.path ++ 32 ∷ b) sf)),
+    )
 
 pub file_of-is : (line name : List ℕ) → IsFileLine line name → file_of line ≡ Some name
 unfolding file_of cut
@@ -137,8 +145,8 @@ begin-tells line next e =
     let n = bound _ (cut line) next e in
     let s = cut-is line n.0.0 n.0.1 n.1 in
     elim (chosen (bytes_eq n.0.0 (codes "call")) _ _ (Some next) n.2) [
-      inl h ↦ called-begins line n.0.0 n.0.1 next s ((bytes_eq-Decides n.0.0 (codes "call")).0 h.0) h.1
-    | inr h ↦ (
-        let a = chosen_some (bytes_eq n.0.0 (codes "add")) _ next h.1 in
-        added-begins line n.0.0 n.0.1 next s ((bytes_eq-Decides n.0.0 (codes "add")).0 a.0) a.1)
+      | inl h ↦ called-begins line n.0.0 n.0.1 next s ((bytes_eq-Decides n.0.0 (codes "call")).0 h.0) h.1
+      | inr h ↦ (
+          let a = chosen_some (bytes_eq n.0.0 (codes "add")) _ next h.1 in
+          added-begins line n.0.0 n.0.1 next s ((bytes_eq-Decides n.0.0 (codes "add")).0 a.0) a.1)
     ]

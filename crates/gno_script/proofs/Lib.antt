@@ -4,3 +4,5 @@ pub mod Budgets
 pub mod Options
 pub mod FirstWords
 pub mod Runs
+pub mod Fronts
+pub mod Progress

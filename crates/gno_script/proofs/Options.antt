@@ -19,3 +19,7 @@ chosen false x y z e = inr (refl, e)
 pub chosen_some : {A : Type 0} (b : Bool) (o : Option A) (y : A) → cond b o None ≡ Some y → (b ≡ true) × (o ≡ Some y)
 chosen_some true o y e = (refl, e)
 chosen_some false o y e = absurd (none-some y e)
+
+pub bound_none : {A B : Type 0} (f : A → Option B) (o : Option A) → option_and_then f o ≡ None → (o ≡ None) ⊎ ((x : A) × (o ≡ Some x) × (f x ≡ None))
+bound_none f None e = inl refl
+bound_none f (Some x) e = inr (x, refl, e)

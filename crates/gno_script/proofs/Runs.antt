@@ -1,9 +1,8 @@
 -- Reading line by line gives the items of the grammar, and no others.
-use Rattle.std.proofs.Common.{◌≡◌, ℕ, List, [], ◌∷◌, ◌++◌, refl, arith, rules, ap, ◌∙◌, sym, cond, Bool, true, false, subst, inl, inr, append_assoc, append-nil}
-use Rattle.std.specs.Prelude.{Option, Some, None, ◌⊎◌, codes, map, ◌==◌}
-use Rattle.std.specs.Option.{option_map, option_and_then, option_to_list}
+use Rattle.std.proofs.Common.{◌≡◌, ℕ, List, [], ◌∷◌, ◌++◌, refl, ap, ◌∙◌, sym, true, false, subst, inl, inr, append_assoc, append-nil}
+use Rattle.std.specs.Prelude.{Some, codes, ◌==◌}
+use Rattle.std.specs.Option.{option_to_list}
 use Rattle.std.specs.Str.{bytes_eq}
-use Rattle.std.specs.List.{flat_map}
 use Rattle.std.proofs.lemmas.Option.{none-some, same_Some, some_pair_parts}
 use Rattle.std.proofs.lemmas.Slice.Eq.{bytes_eq-Decides}
 use Rattle.std.proofs.lemmas.Bool.Decides.{Decides-eqb}
@@ -68,10 +67,10 @@ begun line next lines items (begins_add h l e) = subst (λ (t : Step). Goes Betw
 back_between : (line : List ℕ) (next : Step) (lines : List (List ℕ)) (items : List Item) → between line ≡ Some next → Goes Between line next lines items
 back_between line next lines items e =
     elim (chosen (is_skipped line) (Some (goes_on Between)) _ (Some next) e) [
-      inl h ↦ subst (λ (t : Step). Goes Between line t lines items) (same_Some (goes_on Between) next h.1) (λ k. skipped line lines items h.0 k)
-    | inr h ↦ elim (chosen (bytes_eq line (codes "reload")) (Some (ends Reload)) (begin line) (Some next) h.1) [
-        inl r ↦ subst (λ (t : Step). Goes Between line t lines items) (same_Some (ends Reload) next r.1) (λ k. rw (equal line (codes "reload") r.0) (reload lines items k))
-      | inr b ↦ begun line next lines items (begin-tells line next b.1)
+      | inl h ↦ subst (λ (t : Step). Goes Between line t lines items) (same_Some (goes_on Between) next h.1) (λ k. skipped line lines items h.0 k)
+      | inr h ↦ elim (chosen (bytes_eq line (codes "reload")) (Some (ends Reload)) (begin line) (Some next) h.1) [
+        | inl r ↦ subst (λ (t : Step). Goes Between line t lines items) (same_Some (ends Reload) next r.1) (λ k. rw (equal line (codes "reload") r.0) (reload lines items k))
+        | inr b ↦ begun line next lines items (begin-tells line next b.1)
       ]
     ]
 
@@ -95,16 +94,26 @@ back Between line next lines items e = back_between line next lines items e
 back (Called h function) line next lines items e =
     let c = chosen_some (bytes_eq line (codes "end")) (Some (ends (Call h.budget h.caller h.path function))) next e in
     subst (λ (t : Step). Goes (Called h function) line t lines items) (same_Some (ends (Call h.budget h.caller h.path function)) next c.1) (λ k. record {
-      rest = lines; more = items; lines_are = ap (λ l. l ∷ lines) (equal line (codes "end") c.0); items_are = refl; script = k })
+      rest = lines;
+      more = items;
+      lines_are = ap (λ l. l ∷ lines) (equal line (codes "end") c.0);
+      items_are = refl;
+      script = k;
+    })
 back (Added h) line next lines items e =
     let m = mapped (λ (name : List ℕ). goes_on (Filed h (named name []))) (file_of line) next e in
     subst (λ (t : Step). Goes (Added h) line t lines items) m.2 (λ k. record { file = line; name = m.0; rest = lines; lines_are = refl; file_is = file_of-tells line m.0 m.1; left = k })
 back (Filed h file) line next lines items e =
     elim (chosen (bytes_eq line (codes "end")) (Some (ends (Add h.budget h.caller h.path file))) (source h file line) (Some next) e) [
-      inl c ↦ subst (λ (t : Step). Goes (Filed h file) line t lines items) (same_Some (ends (Add h.budget h.caller h.path file)) next c.1) (λ k. record {
-        sources = []; rest = lines; more = items; lines_are = ap (λ l. l ∷ lines) (equal line (codes "end") c.0);
-        items_are = ap (λ t. Add h.budget h.caller h.path (named file.name t) ∷ items) (sym (append-nil file.text)); script = k })
-    | inr c ↦ back_source h file line next lines items c.1
+      | inl c ↦ subst (λ (t : Step). Goes (Filed h file) line t lines items) (same_Some (ends (Add h.budget h.caller h.path file)) next c.1) (λ k. record {
+        sources = [];
+        rest = lines;
+        more = items;
+        lines_are = ap (λ l. l ∷ lines) (equal line (codes "end") c.0);
+        items_are = ap (λ t. Add h.budget h.caller h.path (named file.name t) ∷ items) (sym (append-nil file.text));
+        script = k;
+      })
+      | inr c ↦ back_source h file line next lines items c.1
     ]
 
 -- the parts of a run over one line and more
@@ -116,7 +125,7 @@ pub record Onward (stage : Stage) (line : List ℕ) (lines : List (List ℕ)) (i
   pub items_are : option_to_list next.item ++ rest.0 ≡ items
   pub last_is : rest.1 ≡ last
 
-onward : (stage : Stage) (line : List ℕ) (lines : List (List ℕ)) (items : List Item) (last : Stage) → run stage (line ∷ lines) ≡ Some (items, last) → Onward stage line lines items last
+pub onward : (stage : Stage) (line : List ℕ) (lines : List (List ℕ)) (items : List Item) (last : Stage) → run stage (line ∷ lines) ≡ Some (items, last) → Onward stage line lines items last
 unfolding run
 onward stage line lines items last e =
     let n = bound _ (step stage line) (items, last) e in
@@ -135,7 +144,7 @@ sound (line ∷ lines) stage items e =
     subst (λ (t : List Item). Continues stage (line ∷ lines) t) o.items_are (back stage line o.next lines o.rest.0 o.steps (sound lines o.next.stage o.rest.0 r))
 
 -- one line of a run
-run-line : (stage : Stage) (line : List ℕ) (next : Step) (lines : List (List ℕ)) (items : List Item) (last : Stage) → step stage line ≡ Some next → run next.stage lines ≡ Some (items, last) →
+pub run-line : (stage : Stage) (line : List ℕ) (next : Step) (lines : List (List ℕ)) (items : List Item) (last : Stage) → step stage line ≡ Some next → run next.stage lines ≡ Some (items, last) →
     run stage (line ∷ lines) ≡ Some (option_to_list next.item ++ items, last)
 unfolding run
 run-line stage line next lines items last s r = rw (s, r) refl
@@ -158,11 +167,11 @@ step-call line budget caller path function l = begins-unskipped line _ _ _ _ l.s
 step-add : (line : List ℕ) (budget : ℕ) (caller path : List ℕ) → IsAddLine line budget caller path → step Between line ≡ Some (goes_on (Added (heading budget caller path)))
 step-add line budget caller path l = begins-unskipped line _ _ _ _ l.spelled refl refl ∙ begin-add line budget caller path l
 
-step-called : (h : Heading) (function : List ℕ) → step (Called h function) (codes "end") ≡ Some (ends (Call h.budget h.caller h.path function))
+pub step-called : (h : Heading) (function : List ℕ) → step (Called h function) (codes "end") ≡ Some (ends (Call h.budget h.caller h.path function))
 unfolding step
 step-called h function = refl
 
-step-filed : (h : Heading) (file : NamedText) → step (Filed h file) (codes "end") ≡ Some (ends (Add h.budget h.caller h.path file))
+pub step-filed : (h : Heading) (file : NamedText) → step (Filed h file) (codes "end") ≡ Some (ends (Add h.budget h.caller h.path file))
 unfolding step
 step-filed h file = refl
 
@@ -170,7 +179,7 @@ step-source : (h : Heading) (name text line : List ℕ) → step (Filed h (named
 unfolding step
 step-source h name text line = refl
 
-step-added : (h : Heading) (line name : List ℕ) → IsFileLine line name → step (Added h) line ≡ Some (goes_on (Filed h (named name [])))
+pub step-added : (h : Heading) (line name : List ℕ) → IsFileLine line name → step (Added h) line ≡ Some (goes_on (Filed h (named name [])))
 unfolding step
 step-added h line name f = rw (file_of-is line name f) refl
 

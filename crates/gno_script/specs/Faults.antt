@@ -1,5 +1,5 @@
 -- The first faulty line.
-use Rattle.std.specs.Prelude.{ℕ, ◌≡◌, ◌+◌, ◌-◌, ◌≤◌, ◌⊎◌, List, [], ◌∷◌, ◌++◌, length, take}
+use Rattle.std.specs.Prelude.{ℕ, ◌≡◌, ◌+◌, ◌-◌, ◌≤◌, ◌⊎◌, List, ◌++◌, length, take}
 use Rattle.gno_script.specs.declared.item.Item.{Item}
 use Rattle.gno_script.specs.declared.script.ScriptError.{ScriptError}
 use Rattle.gno_script.specs.declared.script.ScriptError.TheVariants.{Line, NoMemory}

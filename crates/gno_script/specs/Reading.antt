@@ -1,5 +1,5 @@
 -- A script, read line by line: what the lines so far have begun, and what a line does to it.
-use Rattle.std.specs.Prelude.{ℕ, List, [], ◌∷◌, ◌++◌, Bool, ◌==◌, ◌&&◌, nat_lt, ◌^◌, if◌then◌else◌, codes, Option, Some, None}
+use Rattle.std.specs.Prelude.{ℕ, List, [], ◌∷◌, ◌++◌, ◌==◌, ◌&&◌, nat_lt, ◌^◌, if◌then◌else◌, codes, Option, Some, None}
 use Rattle.std.specs.Option.{option_map, option_and_then, option_to_list}
 use Rattle.std.specs.Str.{bytes_eq}
 use Rattle.std.specs.Str.Parse.{digits_value}
@@ -63,7 +63,7 @@ unfoldable pub begin : List ℕ → Option Step
 begin line = do
   word ← cut line
   if bytes_eq word.0 (codes "call") then option_map (λ call. goes_on (Called call.0 call.1)) (call_of word.1)
-    else (if bytes_eq word.0 (codes "add") then option_map (λ heading. goes_on (Added heading)) (add_of word.1) else None)
+      else (if bytes_eq word.0 (codes "add") then option_map (λ heading. goes_on (Added heading)) (add_of word.1) else None)
 
 abbrev pub between : List ℕ → Option Step
 between line = if is_skipped line then Some (goes_on Between) else (if bytes_eq line (codes "reload") then Some (ends Reload) else begin line)

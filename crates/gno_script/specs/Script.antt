@@ -1,7 +1,6 @@
 -- The grammar of a script: the lines and the items that they spell.
 use Rattle.std.specs.Prelude.{ℕ, ◌≡◌, List, [], ◌∷◌, ◌++◌, map, Bool, true, ◌==◌, codes}
 use Rattle.std.specs.List.{flat_map, join_with_byte}
-use Rattle.gno_base.specs.declared.names.NamedText.{NamedText}
 use Rattle.gno_script.specs.declared.item.Item.{Item}
 use Rattle.gno_script.specs.declared.item.Item.TheVariants.{Add, Call, Reload}
 use Rattle.gno_script.specs.Words.{is_word, is_caller, is_file_name, IsBudget}

@@ -62,17 +62,14 @@ fn push_found(items: &mut List<Item>, item: Option<Item>) -> Result<(), AllocErr
 /// A list of lines has at most one list of items.
 pub fn one_script()
     ensures { (lines : List (List ℕ)) (a b : List Item) → IsScript lines a → IsScript lines b → a ≡ b }
-{
-}
+{}
 
 /// Lines have a first fault or are a script, and not both.
 pub fn no_fault()
     ensures { (lines : List (List ℕ)) (items : List Item) (n : ℕ) → IsScript lines items → IsFirstFault lines n → ⊥ }
-{
-}
+{}
 
 /// Lines have at most one first fault.
 pub fn one_fault()
     ensures { (lines : List (List ℕ)) (m n : ℕ) → IsFirstFault lines m → IsFirstFault lines n → m ≡ n }
-{
-}
+{}

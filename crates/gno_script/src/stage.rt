@@ -129,10 +129,7 @@ fn added(alloc: Global, heading: Heading, line: &[u8]) -> Result<Option<Step>, A
         return Ok(None);
     };
     let text = Bytes::new(alloc);
-    Ok(Some(goes_on(Stage::Filed(
-        heading,
-        NamedText { name, text },
-    ))))
+    Ok(Some(goes_on(Stage::Filed(heading, NamedText { name, text }))))
 }
 
 #[tactic(auto, unfolding(crate::specs::Reading::step))]
@@ -164,10 +161,7 @@ fn source(heading: Heading, file: NamedText, line: &[u8]) -> Result<Option<Step>
     let NamedText { name, mut text } = file;
     text.extend_from_slice(source)?;
     text.push(b'\n')?;
-    Ok(Some(goes_on(Stage::Filed(
-        heading,
-        NamedText { name, text },
-    ))))
+    Ok(Some(goes_on(Stage::Filed(heading, NamedText { name, text }))))
 }
 
 fn goes_on(stage: Stage) -> Step
