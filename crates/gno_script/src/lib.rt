@@ -10,3 +10,6 @@ mod word;
 
 pub use item::Item;
 pub use script::{ScriptError, read_script};
+
+#[cfg(test)]
+mod tests;
