@@ -11,7 +11,8 @@ use Rattle.gno_script.specs.declared.heading.Heading.{Heading}
 use Rattle.gno_script.specs.declared.stage.Stage.{Stage}
 use Rattle.gno_script.specs.declared.stage.Stage.TheVariants.{Between, Called, Added, Filed}
 use Rattle.gno_script.specs.declared.stage.Step.{Step}
-use Rattle.gno_script.specs.Words.{is_word, is_caller, is_file_name}
+use Rattle.gno_base.specs.Callers.{is_caller}
+use Rattle.gno_script.specs.Words.{is_word, is_file_name}
 use Rattle.gno_script.specs.Script.{is_skipped}
 
 infixl 10 ◌>>=◌

@@ -3,7 +3,8 @@ use Rattle.std.specs.Prelude.{ℕ, ◌≡◌, List, [], ◌∷◌, ◌++◌, map
 use Rattle.std.specs.List.{flat_map, join_with_byte}
 use Rattle.gno_script.specs.declared.item.Item.{Item}
 use Rattle.gno_script.specs.declared.item.Item.TheVariants.{Add, Call, Reload}
-use Rattle.gno_script.specs.Words.{is_word, is_caller, is_file_name, IsBudget}
+use Rattle.gno_base.specs.Callers.{is_caller}
+use Rattle.gno_script.specs.Words.{is_word, is_file_name, IsBudget}
 
 -- words with a space between each two
 abbrev pub spaced : List (List ℕ) → List ℕ

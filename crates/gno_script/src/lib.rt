@@ -9,7 +9,7 @@ mod stage;
 mod word;
 
 pub use item::Item;
-pub use script::{ScriptError, read_script};
+pub use script::{ScriptError, no_fault, one_fault, one_script, read_script};
 
 #[cfg(test)]
 mod tests;
