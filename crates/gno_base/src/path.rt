@@ -31,7 +31,9 @@ pub struct Path {
 /// Why a path was not read.
 #[derive(Clone, Copy, Debug, PartialEq, Eq)]
 pub enum PathFault {
+    /// The text is no path.
     BadPath,
+    /// Memory ran out.
     NoMemory,
 }
 

@@ -6,7 +6,8 @@ use Rattle.std.proofs.lemmas.Fmt.{decimal_is_IsNumeral}
 use Rattle.std.proofs.lemmas.Str.Parse.{digit_from_value}
 use Rattle.std.proofs.lemmas.Bool.{and_parts}
 use Rattle.std.proofs.lemmas.Option.{none-some, some_pair_parts}
-use Rattle.gno_script.specs.Words.{is_word, is_visible, is_lower, is_caller, IsBudget}
+use Rattle.gno_base.specs.Callers.{is_caller_byte, is_caller}
+use Rattle.gno_script.specs.Words.{is_word, is_visible, IsBudget}
 use Rattle.gno_script.proofs.Options.{mapped, chosen}
 use Rattle.std.proofs.lemmas.List.{take_rest}
 use Rattle.std.specs.Prelude.{Option, Some, None}
@@ -68,11 +69,11 @@ visible-unspaced (b ∷ bs) e =
     let h = and_parts (is_visible b) (list_all is_visible bs) e in
     ((λ s. grind (arith, nat_tests)), visible-unspaced bs h.1)
 
-pub lower-unspaced : (word : List ℕ) → list_all is_lower word ≡ true → Unspaced word
-lower-unspaced [] e = tt
-lower-unspaced (b ∷ bs) e =
-    let h = and_parts (is_lower b) (list_all is_lower bs) e in
-    ((λ s. grind (arith, nat_tests)), lower-unspaced bs h.1)
+pub caller_bytes-unspaced : (word : List ℕ) → list_all is_caller_byte word ≡ true → Unspaced word
+caller_bytes-unspaced [] e = tt
+caller_bytes-unspaced (b ∷ bs) e =
+    let h = and_parts (is_caller_byte b) (list_all is_caller_byte bs) e in
+    ((λ s. grind (arith, nat_tests)), caller_bytes-unspaced bs h.1)
 
 pub digits-unspaced : (word : List ℕ) → AllDigits 10 word → Unspaced word
 digits-unspaced [] e = tt
@@ -82,7 +83,7 @@ pub word-unspaced : (word : List ℕ) → is_word word ≡ true → Unspaced wor
 word-unspaced word e = visible-unspaced word (and_parts _ _ (and_parts _ _ e).1).1
 
 pub caller-unspaced : (word : List ℕ) → is_caller word ≡ true → Unspaced word
-caller-unspaced word e = lower-unspaced word (and_parts _ _ (and_parts _ _ e).1).1
+caller-unspaced word e = caller_bytes-unspaced word (and_parts _ _ (and_parts _ _ e).1).1
 
 pub budget-unspaced : (word : List ℕ) (n : ℕ) → IsBudget word n → Unspaced word
 budget-unspaced word n b = subst Unspaced (sym b.spelled) (digits-unspaced (decimal n) (decimal_is_IsNumeral n (omega (arith, b.small))).0.1)

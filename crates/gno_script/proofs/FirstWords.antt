@@ -9,7 +9,8 @@ use Rattle.std.proofs.lemmas.Slice.Eq.{bytes_eq-Decides}
 use Rattle.gno_script.specs.declared.heading.Heading.{Heading}
 use Rattle.gno_script.specs.declared.stage.Stage.TheVariants.{Called, Added}
 use Rattle.gno_script.specs.declared.stage.Step.{Step}
-use Rattle.gno_script.specs.Words.{is_word, is_caller, is_file_name, IsBudget}
+use Rattle.gno_base.specs.Callers.{is_caller}
+use Rattle.gno_script.specs.Words.{is_word, is_file_name, IsBudget}
 use Rattle.gno_script.specs.Script.{spaced, IsCallLine, IsAddLine, IsFileLine}
 use Rattle.gno_script.specs.Reading.{cut, budget_of, heading_of, add_of, call_of, file_of, begin, goes_on}
 use Rattle.gno_script.proofs.Options.{bound, mapped, chosen, chosen_some}

@@ -13,7 +13,8 @@ pub record IsViable (front : List (List ℕ)) : Type 0 where
 
 -- No script begins with the first n lines. Behind the last line the fault is that something is missing.
 abbrev pub Fails : List (List ℕ) → ℕ → Type 0
-Fails lines n = ((n ≤ length lines) × (IsViable (take n lines) → ⊥)) ⊎ ((n ≡ length lines + 1) × ((items : List Item) → IsScript lines items → ⊥))
+Fails lines n = ((n ≤ length lines) × (IsViable (take n lines) → ⊥))
+    ⊎ ((n ≡ length lines + 1) × ((items : List Item) → IsScript lines items → ⊥))
 
 -- The lines before the n-th begin a script, and with it they don't. Lines count from 1.
 pub record IsFirstFault (lines : List (List ℕ)) (n : ℕ) : Type 0 where

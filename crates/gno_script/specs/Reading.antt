@@ -1,4 +1,5 @@
--- A script, read line by line: what the lines so far have begun, and what a line does to it.
+-- A script, read line by line: what the lines so far have begun, and what a line does to it. Only contracts inside the
+-- crate speak of this; the lemmas of `Runs` show that it gives the items of the grammar, and no others.
 use Rattle.std.specs.Prelude.{ℕ, List, [], ◌∷◌, ◌++◌, ◌==◌, ◌&&◌, nat_lt, ◌^◌, if◌then◌else◌, codes, Option, Some, None}
 use Rattle.std.specs.Option.{option_map, option_and_then, option_to_list}
 use Rattle.std.specs.Str.{bytes_eq}
@@ -11,7 +12,8 @@ use Rattle.gno_script.specs.declared.heading.Heading.{Heading}
 use Rattle.gno_script.specs.declared.stage.Stage.{Stage}
 use Rattle.gno_script.specs.declared.stage.Stage.TheVariants.{Between, Called, Added, Filed}
 use Rattle.gno_script.specs.declared.stage.Step.{Step}
-use Rattle.gno_script.specs.Words.{is_word, is_caller, is_file_name}
+use Rattle.gno_base.specs.Callers.{is_caller}
+use Rattle.gno_script.specs.Words.{is_word, is_file_name}
 use Rattle.gno_script.specs.Script.{is_skipped}
 
 infixl 10 ◌>>=◌
@@ -25,11 +27,13 @@ cut (b ∷ bs) = if b == 32 then Some ([], bs) else option_map (λ parts. (b ∷
 
 -- the number that the word spells
 unfoldable pub budget_of : List ℕ → Option ℕ
-budget_of word = if bytes_eq word (decimal (digits_value 10 word)) && nat_lt (digits_value 10 word) (2 ^ 63) then Some (digits_value 10 word) else None
+budget_of word = if bytes_eq word (decimal (digits_value 10 word)) && nat_lt (digits_value 10 word) (2 ^ 63)
+    then Some (digits_value 10 word) else None
 
 -- BUDGET, CALLER and PATH
 unfoldable pub heading_of : List ℕ → List ℕ → List ℕ → Option Heading
-heading_of number caller path = if is_caller caller && is_word path then option_map (λ budget. record { budget = budget; caller = caller; path = path }) (budget_of number) else None
+heading_of number caller path = if is_caller caller && is_word path
+    then option_map (λ budget. record { budget = budget; caller = caller; path = path }) (budget_of number) else None
 
 -- BUDGET CALLER PATH
 unfoldable pub add_of : List ℕ → Option Heading
@@ -71,13 +75,16 @@ between line = if is_skipped line then Some (goes_on Between) else (if bytes_eq 
 -- one more source line
 abbrev pub source : Heading → NamedText → List ℕ → Option Step
 source heading file [] = None
-source heading file (b ∷ bs) = if b == 124 then Some (goes_on (Filed heading (record { name = file.name; text = file.text ++ (bs ++ 10 ∷ []) }))) else None
+source heading file (b ∷ bs) = if b == 124
+    then Some (goes_on (Filed heading (record { name = file.name; text = file.text ++ (bs ++ 10 ∷ []) }))) else None
 
 unfoldable pub step : Stage → List ℕ → Option Step
 step Between line = between line
-step (Called heading function) line = if bytes_eq line (codes "end") then Some (ends (Call heading.budget heading.caller heading.path function)) else None
+step (Called heading function) line = if bytes_eq line (codes "end")
+    then Some (ends (Call heading.budget heading.caller heading.path function)) else None
 step (Added heading) line = option_map (λ name. goes_on (Filed heading (record { name = name; text = [] }))) (file_of line)
-step (Filed heading file) line = if bytes_eq line (codes "end") then Some (ends (Add heading.budget heading.caller heading.path file)) else source heading file line
+step (Filed heading file) line = if bytes_eq line (codes "end")
+    then Some (ends (Add heading.budget heading.caller heading.path file)) else source heading file line
 
 -- the items of the lines, and what they have begun at their end
 unfoldable pub run : Stage → List (List ℕ) → Option (List Item × Stage)

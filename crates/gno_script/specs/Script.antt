@@ -3,7 +3,8 @@ use Rattle.std.specs.Prelude.{ℕ, ◌≡◌, List, [], ◌∷◌, ◌++◌, map
 use Rattle.std.specs.List.{flat_map, join_with_byte}
 use Rattle.gno_script.specs.declared.item.Item.{Item}
 use Rattle.gno_script.specs.declared.item.Item.TheVariants.{Add, Call, Reload}
-use Rattle.gno_script.specs.Words.{is_word, is_caller, is_file_name, IsBudget}
+use Rattle.gno_base.specs.Callers.{is_caller}
+use Rattle.gno_script.specs.Words.{is_word, is_file_name, IsBudget}
 
 -- words with a space between each two
 abbrev pub spaced : List (List ℕ) → List ℕ
@@ -47,11 +48,14 @@ text_of sources = flat_map (λ source. source ++ 10 ∷ []) sources
 -- the lines are those of these items
 pub data IsScript : List (List ℕ) → List Item → Type 0 where
   nothing : IsScript [] []
-  skipped : (line : List ℕ) (lines : List (List ℕ)) (items : List Item) → is_skipped line ≡ true → IsScript lines items → IsScript (line ∷ lines) items
-  reload : (lines : List (List ℕ)) (items : List Item) → IsScript lines items → IsScript (codes "reload" ∷ lines) (Reload ∷ items)
+  skipped : (line : List ℕ) (lines : List (List ℕ)) (items : List Item) → is_skipped line ≡ true →
+      IsScript lines items → IsScript (line ∷ lines) items
+  reload : (lines : List (List ℕ)) (items : List Item) →
+      IsScript lines items → IsScript (codes "reload" ∷ lines) (Reload ∷ items)
   call : (line : List ℕ) (budget : ℕ) (caller path function : List ℕ) (lines : List (List ℕ)) (items : List Item) →
       IsCallLine line budget caller path function → IsScript lines items →
       IsScript (line ∷ codes "end" ∷ lines) (Call budget caller path function ∷ items)
   add : (line file : List ℕ) (budget : ℕ) (caller path name : List ℕ) (sources lines : List (List ℕ)) (items : List Item) →
       IsAddLine line budget caller path → IsFileLine file name → IsScript lines items →
-      IsScript (line ∷ file ∷ (barred sources ++ codes "end" ∷ lines)) (Add budget caller path (record { name = name; text = text_of sources }) ∷ items)
+      IsScript (line ∷ file ∷ (barred sources ++ codes "end" ∷ lines))
+      (Add budget caller path (record { name = name; text = text_of sources }) ∷ items)

@@ -2,8 +2,8 @@
 ghost use Rattle.std.specs.Prelude.{◌≡◌, IfOk};
 ghost use Rattle.gno_script.specs.Reading.{heading_of, add_of, call_of, file_of};
 
-use crate::word::{budget_of, cut, is_caller, is_file_name, is_word};
-use gno_base::Bytes;
+use crate::word::{budget_of, cut, is_file_name, is_word};
+use gno_base::{Bytes, is_caller};
 use std::alloc::{AllocError, Global};
 
 /// Who pays for an item, how much at most, and for which package.

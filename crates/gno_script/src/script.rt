@@ -15,12 +15,13 @@ use std::alloc::{AllocError, Global};
 /// Why a script was not read.
 #[derive(Clone, Copy, Debug, PartialEq, Eq)]
 pub enum ScriptError {
-    /// The number of the first faulty line, from 1. One past the last line where the end is missing.
+    /// The number of the first faulty line, from 1. One past the last line where an item lacks its `end`.
     Line(u64),
+    /// Memory ran out.
     NoMemory,
 }
 
-/// The items of a script. `Line` comes exactly where the text is no script.
+/// The items of a script, in order. `Line` comes exactly where the text is no script.
 pub fn read_script(alloc: Global, bytes: &[u8]) -> Result<List<Item>, ScriptError>
     ensures items { IfOk result (λ items. IsScript (lines_of bytes.now) items) }
     ensures line { IfErr result (λ error. Blames (lines_of bytes.now) error) }
@@ -64,7 +65,7 @@ pub fn one_script()
     ensures { (lines : List (List ℕ)) (a b : List Item) → IsScript lines a → IsScript lines b → a ≡ b }
 {}
 
-/// Lines have a first fault or are a script, and not both.
+/// A script has no first fault.
 pub fn no_fault()
     ensures { (lines : List (List ℕ)) (items : List Item) (n : ℕ) → IsScript lines items → IsFirstFault lines n → ⊥ }
 {}

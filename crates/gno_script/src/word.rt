@@ -4,9 +4,10 @@ ghost use Rattle.std.specs.Fmt.{decimal};
 ghost use Rattle.std.specs.Str.{bytes_eq};
 ghost use Rattle.std.specs.List.{list_all};
 ghost use Rattle.std.specs.Option.{option_map};
-ghost use Rattle.gno_script.specs.Words.{is_word, is_visible, is_lower, is_caller, is_name_byte, is_file_name};
+ghost use Rattle.gno_script.specs.Words.{is_word, is_visible, is_capital_letter, is_name_byte, is_file_name};
 ghost use Rattle.gno_script.specs.Reading.{cut, budget_of};
 
+use gno_base::{is_digit, is_small_letter};
 use std::alloc::{AllocError, Global};
 
 /// What stands before the first space, and behind it. None where there is no space.
@@ -41,25 +42,6 @@ fn is_visible(b: u8) -> bool
     b'!' <= b && b <= b'~'
 }
 
-/// Whether it is a caller: 1 to 64 lower case letters and digits.
-pub fn is_caller(word: &[u8]) -> bool
-    ensures { result ≡ is_caller word.now }
-{
-    1 <= word.len() && (word.len() <= 64 && all_lower(word))
-}
-
-fn all_lower(word: &[u8]) -> bool
-    ensures { result ≡ list_all is_lower word.now }
-{
-    word.iter().all(|b| is_lower(*b))
-}
-
-fn is_lower(b: u8) -> bool
-    ensures { result ≡ is_lower b }
-{
-    (b'a' <= b && b <= b'z') || (b'0' <= b && b <= b'9')
-}
-
 /// Whether it is the name of a source file: at most 256 letters, digits, `_`, `-` and `.`, with `.gno` at the end.
 pub fn is_file_name(word: &[u8]) -> bool
     ensures { result ≡ is_file_name word.now }
@@ -76,7 +58,14 @@ fn all_in_names(word: &[u8]) -> bool
 fn is_name_byte(b: u8) -> bool
     ensures { result ≡ is_name_byte b }
 {
-    is_lower(b) || ((b'A' <= b && b <= b'Z') || (b == b'_' || (b == b'-' || b == b'.')))
+    is_small_letter(b)
+        || (is_capital_letter(b) || (is_digit(b) || (b == b'_' || (b == b'-' || b == b'.'))))
+}
+
+fn is_capital_letter(b: u8) -> bool
+    ensures { result ≡ is_capital_letter b }
+{
+    b'A' <= b && b <= b'Z'
 }
 
 /// The number below 2^63 of which the word is the decimal spelling.
