@@ -6,7 +6,7 @@ use Rattle.std.proofs.lemmas.Str.{IsUtf8-from_is_utf8, is_utf8-from_IsUtf8}
 use Rattle.gno_text.specs.Quoting.{Part, begins_character, parts_after, spelling, spellings}
 use Rattle.gno_text.specs.Quoting.Part.{Inside, Outside}
 
-take-one_more : (n b : ℕ) (bs : List ℕ) → take (1 + n) (b ∷ bs) ≡ b ∷ take n bs
+pub take-one_more : (n b : ℕ) (bs : List ℕ) → take (1 + n) (b ∷ bs) ≡ b ∷ take n bs
 take-one_more n b bs = let e : 1 + n ≡ suc n = omega arith in rw e refl
 
 pub begins_character-front : (xs : List ℕ) → 0 < length xs → begins_character xs ≡ is_utf8 (take (1 + continuation_len (slice_index xs 0)) xs)

@@ -1,7 +1,6 @@
 -- Quoted texts: any bytes, between quotes, on one line. What is UTF-8 is std's word (RFC 3629).
-use Rattle.std.specs.Prelude.{◌≡◌, ℕ, map, not, true, zero, suc, ◌/◌, ◌%◌, ◌==◌, ◌||◌, nat_lt, Bool, false, if◌then◌else◌, List, [], ◌∷◌, ◌++◌, codes, slice_index, take, flat_map, Option, Some, None}
+use Rattle.std.specs.Prelude.{◌≡◌, ℕ, map, All, zero, suc, ◌/◌, ◌%◌, ◌==◌, ◌||◌, nat_lt, Bool, false, if◌then◌else◌, List, [], ◌∷◌, ◌++◌, codes, slice_index, take, flat_map, Option, Some, None}
 use Rattle.std.specs.Char.{encode_utf8, IsScalar}
-use Rattle.std.specs.List.{list_all}
 use Rattle.std.specs.Str.{is_utf8, continuation_len, byte, StartsWithNoChar}
 
 -- a byte of a text: inside the encoding of a character, or outside of each
@@ -66,4 +65,4 @@ pub record IsReadFromFront (text : List ℕ) : Type 0 where
 
 -- no control byte stands in the line
 abbrev pub IsPlain : List ℕ → Type 0
-IsPlain line = list_all (λ b. not (is_control b)) line ≡ true
+IsPlain line = All (λ b. is_control b ≡ false) line

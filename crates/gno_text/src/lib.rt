@@ -5,4 +5,4 @@ mod quoting;
 #[cfg(test)]
 mod tests;
 
-pub use quoting::quoted;
+pub use quoting::{quotation_stands_on_one_line, quoted, text_is_read_from_front};

@@ -21,6 +21,17 @@ pub fn quoted(alloc: Global, text: &[u8]) -> Result<Bytes, AllocError>
     Ok(line)
 }
 
+/// Where a character begins, its bytes are inside of it; else one byte is outside; and reading goes on behind.
+/// This states a law and does nothing.
+pub fn text_is_read_from_front(text: &[u8])
+    ensures { spec.IsReadFromFront text.now }
+{}
+
+/// A quotation has no byte below 0x20 and no 0x7f. This states a law and does nothing.
+pub fn quotation_stands_on_one_line(text: &[u8])
+    ensures { spec.IsPlain (spec.quoted text.now) }
+{}
+
 fn push_spellings(line: &mut Bytes, text: &[u8]) -> Result<(), AllocError>
     ensures { OnOk result (line.new ≡ line.old ++ spec.spellings (spec.parts_of text.now)) }
 {

@@ -10,7 +10,7 @@ pub returns-in_ok-push_inside-2 : goal.returns-in_ok-push_inside-2
 returns-in_ok-push_inside-2 c =
     let begins = sym c.begins_character.ensures ∙ c.if-begins_character.true in
     first_spelled _ _ _ _ _ c.in_ok-push_inside-2.ensures
-        (parts_after-character c.args.more c.continuation_len.result c.args.rest.now c.if-more-gt0.false begins c.continuation_len.ensures c.requires)
+    (parts_after-character c.args.more c.continuation_len.result c.args.rest.now c.if-more-gt0.false begins c.continuation_len.ensures c.requires)
 
 pub returns-in_ok-push_outside : goal.returns-in_ok-push_outside
 returns-in_ok-push_outside c =
