@@ -22,6 +22,12 @@ parts_after zero (b ∷ bs) = if begins_character (b ∷ bs) then Inside b ∷ p
 abbrev pub parts_of : List ℕ → List Part
 parts_of text = parts_after zero text
 
+-- the rule in std's words: bytes at which a character begins are inside, up to its end; else the first byte is outside; and reading goes on behind
+pub record IsReadFromFront (text : List ℕ) : Type 0 where
+  pub at_end : text ≡ [] → parts_of text ≡ []
+  pub at_character : (c : ℕ) (rest : List ℕ) → IsScalar c → text ≡ encode_utf8 c ++ rest → parts_of text ≡ map Inside (encode_utf8 c) ++ parts_of rest
+  pub at_stray : (b : ℕ) (rest : List ℕ) → StartsWithNoChar text → text ≡ b ∷ rest → parts_of text ≡ Outside b ∷ parts_of rest
+
 -- the letter behind the backslash, of a byte that has one
 unfoldable pub letter_of : ℕ → Option ℕ
 letter_of b = if b == byte "\"" then Some (byte "\"")
@@ -56,12 +62,6 @@ spellings parts = flat_map spelling parts
 -- the text between quotes
 abbrev pub quoted : List ℕ → List ℕ
 quoted text = byte "\"" ∷ (spellings (parts_of text) ++ byte "\"" ∷ [])
-
--- how each text is read, in std's words
-pub record IsReadFromFront (text : List ℕ) : Type 0 where
-  pub at_end : text ≡ [] → parts_of text ≡ []
-  pub at_character : (c : ℕ) (rest : List ℕ) → IsScalar c → text ≡ encode_utf8 c ++ rest → parts_of text ≡ map Inside (encode_utf8 c) ++ parts_of rest
-  pub at_stray : (b : ℕ) (rest : List ℕ) → StartsWithNoChar text → text ≡ b ∷ rest → parts_of text ≡ Outside b ∷ parts_of rest
 
 -- no control byte stands in the line
 abbrev pub IsPlain : List ℕ → Type 0

@@ -5,4 +5,6 @@ mod quoting;
 #[cfg(test)]
 mod tests;
 
-pub use quoting::{quotation_stands_on_one_line, quoted, text_is_read_from_front};
+pub use quoting::{
+    quotation_stands_on_one_line, quotations_differ, quoted, text_is_read_from_front,
+};

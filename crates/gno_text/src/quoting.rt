@@ -32,6 +32,11 @@ pub fn quotation_stands_on_one_line(text: &[u8])
     ensures { spec.IsPlain (spec.quoted text.now) }
 {}
 
+/// Different texts have different quotations. This states a law and does nothing.
+pub fn quotations_differ(first: &[u8], second: &[u8])
+    ensures { spec.quoted first.now ≡ spec.quoted second.now → first.now ≡ second.now }
+{}
+
 fn push_spellings(line: &mut Bytes, text: &[u8]) -> Result<(), AllocError>
     ensures { OnOk result (line.new ≡ line.old ++ spec.spellings (spec.parts_of text.now)) }
 {
