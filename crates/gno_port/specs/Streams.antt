@@ -19,6 +19,10 @@ Gained old new bytes = new ≡ with_more old bytes
 abbrev pub Lost : Option (List ℕ) → Option (List ℕ) → List ℕ → Type 0
 Lost old new bytes = old ≡ with_first bytes new
 
+-- what is told lost some bytes at its front
+abbrev pub LostSome : Option (List ℕ) → Option (List ℕ) → Type 0
+LostSome old new = (bytes : List ℕ) × Lost old new bytes
+
 -- nothing that is told is left
 abbrev pub IsAtEnd : Option (List ℕ) → Type 0
 IsAtEnd None = ⊤

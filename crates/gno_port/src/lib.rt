@@ -6,8 +6,8 @@ mod sink;
 mod source;
 
 pub use keeper::{Batch, Change, KeepFault, Keeper};
-pub use sink::Sink;
-pub use source::Source;
+pub use sink::{Sink, WriteFault, write_all};
+pub use source::{ReadFault, Source, read_all};
 
 /// A device failed.
 #[derive(Clone, Copy, Debug, PartialEq, Eq)]

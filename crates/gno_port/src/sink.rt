@@ -1,7 +1,7 @@
 // A sink of bytes.
-ghost use Rattle.std.specs.Prelude.{List, ℕ, Option, OnErr, ◌≤◌};
+ghost use Rattle.std.specs.Prelude.{◌≡◌, ◌≤◌, ◌<◌, false, List, ℕ, length, take, Option, OnErr, OnOk, IfErr};
 ghost use Rattle.gno_port.specs.Causes.{Rose};
-ghost use Rattle.gno_port.specs.Streams.{Writes};
+ghost use Rattle.gno_port.specs.Streams.{Writes, Gained};
 
 use crate::Failed;
 
@@ -19,4 +19,38 @@ pub trait Sink {
         ensures bytes { Writes (holds self.old) (holds self.new) result piece.now }
         ensures cause { OnErr result (Rose (faults self.old) (faults self.new)) }
         ensures later { faults self.old ≤ faults self.new };
+}
+
+/// How many bytes were written, and whether the end came since the sink took none of a piece that had some,
+/// or else since it failed.
+#[derive(Clone, Copy, Debug, PartialEq, Eq)]
+pub struct WriteFault {
+    pub written: usize,
+    pub zero: bool,
+}
+
+/// Writes all the bytes. It takes no memory.
+pub fn write_all<O: Sink>(out: &mut O, bytes: &[u8]) -> Result<(), WriteFault>
+    ensures ok { OnOk result (Gained (O.holds out.old) (O.holds out.new) bytes.now) }
+    ensures err { IfErr result (λ fault. (fault.written < length bytes.now) × Gained (O.holds out.old) (O.holds out.new) (take fault.written bytes.now)) }
+    ensures cause { IfErr result (λ fault. fault.zero ≡ false → Rose (O.faults out.old) (O.faults out.new)) }
+    ensures later { O.faults out.old ≤ O.faults out.new }
+{
+    let mut written = 0;
+    while written < bytes.len() {
+        match out.write(&bytes[written..]) {
+            Ok(0) => return Err(WriteFault {
+                written,
+                zero: true,
+            }),
+            Ok(count) => written += count,
+            Err(Failed) => {
+                return Err(WriteFault {
+                    written,
+                    zero: false,
+                });
+            }
+        }
+    }
+    Ok(())
 }
