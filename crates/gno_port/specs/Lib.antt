@@ -1,4 +1,7 @@
 pub mod Causes
+pub mod Failing
 pub mod Keeping
+pub mod MemorySink
+pub mod MemorySource
 pub mod Streams
 pub mod Tables

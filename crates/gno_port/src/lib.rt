@@ -1,11 +1,17 @@
 //! What the program meets: a source, a sink and a keeper of tables, and forms of each in memory.
 #![tactic(auto)]
 
+mod failing;
 mod keeper;
+mod memory_sink;
+mod memory_source;
 mod sink;
 mod source;
 
+pub use failing::{Called, FailAt};
 pub use keeper::{Batch, Change, KeepFault, Keeper};
+pub use memory_sink::MemorySink;
+pub use memory_source::MemorySource;
 pub use sink::{Sink, WriteFault, write_all};
 pub use source::{ReadFault, Source, read_all};
 
