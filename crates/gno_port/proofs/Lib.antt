@@ -1,2 +1,4 @@
+pub mod FreshKeys
+pub mod RowLemmas
 pub mod Steps
 pub mod TableLemmas

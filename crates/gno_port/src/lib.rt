@@ -5,6 +5,7 @@ mod failing;
 mod keeper;
 mod memory_sink;
 mod memory_source;
+mod rows;
 mod sink;
 mod source;
 

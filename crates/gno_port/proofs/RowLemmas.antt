@@ -1,0 +1,55 @@
+-- The rows of a table in memory after one change, and what a look-up finds in them.
+use Rattle.std.proofs.Common.{◌≡◌, ℕ, List, [], ◌∷◌, ap, ◌∙◌, refl, sym}
+use Rattle.std.specs.Prelude.{Option, Some, None, Bool, true, false, cond, map}
+use Rattle.std.specs.Ordering.{nat_cmp, is_eq, eq_by_cmp}
+use Rattle.std.specs.Cmp.{eq_by_cmp_equiv, Equal-is}
+
+use Rattle.std.proofs.lemmas.Bool.{cond-true, cond-false, cases_Bool}
+use mathlib.Core.Logic.{⊎_elim}
+use mathlib.Core.Path.{subst}
+use Rattle.std.specs.declared.cmp.Ordering.{Ordering}
+use Rattle.std.specs.Cmp.Lexicographic.{slice_cmp, nat_list_cmp_total}
+use Rattle.std.specs.declared.vec.Vec.{Vec}
+use Rattle.std.specs.declared.alloc.Global.{Global}
+use Rattle.std.specs.Map.{lookup, KeepsOthers, IsKeyTest, AreApart}
+use Rattle.std.specs.BTreeMap as tree
+use Rattle.std.specs.FinMap.{get, find, get-from_entries, same_map, slice_cmp-IsAntisymmetric, nat_cmp-IsAntisymmetric, IsAntisymmetric}
+use Rattle.gno_port.specs.Tables.{Table, put}
+use Rattle.gno_port.specs.Rows.{Rows, rows_table}
+use Rattle.gno_port.proofs.TableLemmas.{get-put}
+
+abbrev pub vec_cmp : Vec ℕ Global → Vec ℕ Global → Ordering
+vec_cmp x y = slice_cmp nat_cmp x.items y.items
+
+abbrev pub at_bytes : List ℕ → Vec ℕ Global → Ordering
+at_bytes bytes key = slice_cmp nat_cmp bytes key.items
+
+pub order-IsAntisymmetric : IsAntisymmetric (slice_cmp nat_cmp)
+order-IsAntisymmetric = slice_cmp-IsAntisymmetric nat_cmp-IsAntisymmetric
+
+find-rows : (q : List ℕ) (es : List (Vec ℕ Global × List ℕ)) → find (slice_cmp nat_cmp) q (map (λ row. (row.0.items, row.1)) es) ≡ lookup (tree.is_at (at_bytes q)) es
+find-rows q [] = refl
+find-rows q (e ∷ es) = ap (λ t. cond (is_eq (slice_cmp nat_cmp q e.0.items)) (Some e.1) t) (find-rows q es)
+
+pub get_rows : (rows : Rows) (q : List ℕ) → get (rows_table rows) q ≡ tree.get_by (at_bytes q) rows
+get_rows rows q = get-from_entries nat_list_cmp_total _ q ∙ find-rows q rows.entries
+
+same_bytes : (q bytes : List ℕ) → eq_by_cmp (slice_cmp nat_cmp) q bytes ≡ true → q ≡ bytes
+same_bytes q bytes e = order-IsAntisymmetric q bytes ((Equal-is (slice_cmp nat_cmp q bytes)).0 e)
+
+others : (old new : List (Vec ℕ Global × List ℕ)) (bytes q : List ℕ) → KeepsOthers (eq_by_cmp vec_cmp) (tree.is_at (at_bytes bytes)) old new
+    → eq_by_cmp (slice_cmp nat_cmp) q bytes ≡ false → lookup (tree.is_at (at_bytes q)) new ≡ lookup (tree.is_at (at_bytes q)) old
+unfolding KeepsOthers
+others old new bytes q h ne =
+    let same = eq_by_cmp_equiv nat_list_cmp_total in
+    h _ (λ x y. same.congr q x.items y.items) (λ k e. same.symm q k.items ∙ sym (same.congr bytes k.items q e) ∙ same.symm bytes q ∙ ne)
+
+-- one change of the rows is that change of their table
+pub rows_updated : (m n : Rows) (bytes : List ℕ) (value : Option (List ℕ)) → tree.UpdatesBy vec_cmp (at_bytes bytes) m n value → rows_table n ≡ put (rows_table m) bytes value
+rows_updated m n bytes value h = same_map nat_list_cmp_total order-IsAntisymmetric _ _ (λ q.
+    get_rows n q
+    ∙ ⊎_elim
+        (λ y. subst (λ k. tree.get_by (at_bytes k) n ≡ value) (sym (same_bytes q bytes y)) h.1 ∙ sym (cond-true _ value (get (rows_table m) q) y))
+        (λ f. others m.entries n.entries bytes q h.3 f ∙ sym (get_rows m q) ∙ sym (cond-false _ value (get (rows_table m) q) f))
+        (cases_Bool (eq_by_cmp (slice_cmp nat_cmp) q bytes))
+    ∙ sym (get-put (rows_table m) bytes value q))
