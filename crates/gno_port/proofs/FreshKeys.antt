@@ -1,8 +1,8 @@
 -- The keys that changes bring into a table: taking them out again, and the room that they make.
-use Rattle.std.proofs.Common.{◌≡◌, ℕ, List, [], ◌∷◌, ap, ◌∙◌, refl, sym}
+use Rattle.std.proofs.Common.{◌≡◌, ℕ, ◌<◌, ◌+◌, drop, length, slice_index_or, ◌||◌, List, [], ◌∷◌, ap, ◌∙◌, refl, sym}
 use Rattle.std.specs.Prelude.{Option, Some, None, Bool, true, false, cond, ◌&&◌, is_some, is_none, IsSome, ⊤, map}
 use Rattle.std.specs.Str.{bytes_eq}
-use Rattle.std.specs.List.{AllByRecursion}
+use Rattle.std.specs.List.{AllByRecursion, list_any}
 use Rattle.std.specs.List.Sorted.{IsStrictlySortedBy}
 use Rattle.std.specs.Ordering.{nat_cmp, is_eq}
 use Rattle.std.specs.Cmp.Lexicographic.{slice_cmp, bytes_decides, nat_list_cmp_total}
@@ -10,6 +10,9 @@ use Rattle.std.specs.Cmp.{eq_by_cmp_equiv}
 use Rattle.std.specs.declared.cmp.Ordering.TheVariants.{Less}
 use Rattle.std.specs.FinMap.{get}
 use Rattle.std.proofs.lemmas.Bool.{false≢true, true≢false, or_parts, cases_Bool}
+use Rattle.std.proofs.lemmas.List.{drop_more}
+use Rattle.std.proofs.lemmas.List.Folds.{list_any_at}
+use Rattle.std.proofs.lemmas.Map.Text.{is_eq-slice_cmp}
 use mathlib.Core.Logic.{⊎_elim}
 use mathlib.Core.Path.{subst}
 use Rattle.gno_port.specs.declared.keeper.Change.{Change}
@@ -38,8 +41,8 @@ nothing_at t (c ∷ cs) q =
     ] refl
 
 -- to take fresh keys out of the table that lacks them changes nothing
-pub fresh-removed : (t : Table) (cs : List Change) → applied (removals (fresh_keys t cs)) t ≡ t
-fresh-removed t cs = tables_agree _ _ (λ q. get-applied (removals (fresh_keys t cs)) t q ∙ nothing_at t cs q)
+pub fresh_removed : (t : Table) (cs : List Change) → applied (removals (fresh_keys t cs)) t ≡ t
+fresh_removed t cs = tables_agree _ _ (λ q. get-applied (removals (fresh_keys t cs)) t q ∙ nothing_at t cs q)
 
 fresh_within : (t : Table) (cs : List Change) (q : List ℕ) (x : Value) → has_key cs q ≡ false → latest (blanks (fresh_keys t cs)) q x ≡ x
 fresh_within t [] q x h = refl
@@ -51,8 +54,8 @@ fresh_within t (c ∷ cs) q x h =
     ]
 
 -- after the changes it doesn't matter that the fresh keys came in before
-pub fresh-applied : (t : Table) (cs : List Change) → applied cs (applied (blanks (fresh_keys t cs)) t) ≡ applied cs t
-fresh-applied t cs = applied-same cs _ t (λ q n. get-applied (blanks (fresh_keys t cs)) t q ∙ fresh_within t cs q (get t q) n)
+pub fresh_applied : (t : Table) (cs : List Change) → applied cs (applied (blanks (fresh_keys t cs)) t) ≡ applied cs t
+fresh_applied t cs = applied-same cs _ t (λ q n. get-applied (blanks (fresh_keys t cs)) t q ∙ fresh_within t cs q (get t q) n)
 
 -- each change that gives a value finds its key
 Present : List Change → Table → Type 0
@@ -74,8 +77,8 @@ one_more : (k : List ℕ) (ks : List (List ℕ)) (cs : List Change) (t : Table) 
 unfolding Reached
 one_more k ks [] t r = tt
 one_more k ks (c ∷ cs) t r = (
-    λ s. elim (bytes_eq c.key k) as (λ b. IsSome (latest (blanks ks) c.key (cond b (Some []) (get t c.key)))) [ true ↦ stays_some ks c.key (Some []) refl | false ↦ r.0 s ],
-    one_more k ks cs t r.1,
+  λ s. elim (bytes_eq c.key k) as (λ b. IsSome (latest (blanks ks) c.key (cond b (Some []) (get t c.key)))) [ true ↦ stays_some ks c.key (Some []) refl | false ↦ r.0 s ],
+  one_more k ks cs t r.1,
 )
 
 was_there : (v x : Value) → is_some v ≡ true → (is_some v && is_none x) ≡ false → IsSome x
@@ -101,8 +104,8 @@ kept : (cs : List Change) (t : Table) (k : List ℕ) (v : Value) → AllByRecurs
 unfolding Present
 kept [] t k v below p = tt
 kept (c ∷ cs) t k v below p = (
-    λ s. subst IsSome (sym (get-put t k v c.key ∙ ap (λ b. cond b v (get t c.key)) ((eq_by_cmp_equiv nat_list_cmp_total).symm c.key k ∙ ap is_eq below.0))) (p.0 s),
-    kept cs t k v below.1 p.1,
+  λ s. subst IsSome (sym (get-put t k v c.key ∙ ap (λ b. cond b v (get t c.key)) ((eq_by_cmp_equiv nat_list_cmp_total).symm c.key k ∙ ap is_eq below.0))) (p.0 s),
+  kept cs t k v below.1 p.1,
 )
 
 has_room : (cs : List Change) (t : Table) → IsRising cs → Present cs t → HasRoom cs t
@@ -111,5 +114,25 @@ has_room [] t rising p = tt
 has_room (c ∷ cs) t rising p = (p.0, has_room cs (put t c.key c.value) rising.1 (kept cs t c.key c.value rising.0 p.1))
 
 -- once the fresh keys are in the table, each change that gives a value finds its key
-pub fresh-room : (t : Table) (cs : List Change) → IsRising cs → HasRoom cs (applied (blanks (fresh_keys t cs)) t)
-fresh-room t cs rising = has_room cs _ rising (present (fresh_keys t cs) cs t (reached t cs))
+pub fresh_room : (t : Table) (cs : List Change) → IsRising cs → HasRoom cs (applied (blanks (fresh_keys t cs)) t)
+fresh_room t cs rising = has_room cs _ rising (present (fresh_keys t cs) cs t (reached t cs))
+
+-- one more of the keys came in
+pub added_left : (keys : List (List ℕ)) (i : ℕ) (k : List ℕ) (t new : Table) → i < length keys → k ≡ slice_index_or keys i k → new ≡ put t k (Some [])
+    → applied (blanks (drop (i + 1) keys)) new ≡ applied (blanks (drop i keys)) t
+added_left keys i k t new l e n = ap (applied (blanks (drop (i + 1) keys))) n ∙ ap (λ ks. applied (blanks ks) t) (sym (drop_more keys i k l ∙ ap (λ x. x ∷ drop (i + 1) keys) (sym e)))
+
+any_removed : (keys : List (List ℕ)) (k : List ℕ) → has_key (removals keys) k ≡ list_any (bytes_eq k) keys
+any_removed [] k = refl
+any_removed (x ∷ xs) k = ap (λ t. bytes_eq k x || t) (any_removed xs k)
+
+listed : (keys : List (List ℕ)) (i : ℕ) (k : List ℕ) → i < length keys → k ≡ slice_index_or keys i k → has_key (removals keys) k ≡ true
+listed keys i k l e = any_removed keys k ∙ list_any_at (bytes_eq k) keys i k l (subst (λ x. bytes_eq k x ≡ true) e (same_bytes k))
+
+pub added_others : (keys : List (List ℕ)) (i : ℕ) (k : List ℕ) (t new : Table) → i < length keys → k ≡ slice_index_or keys i k → new ≡ put t k (Some [])
+    → applied (removals keys) new ≡ applied (removals keys) t
+added_others keys i k t new l e n = ap (applied (removals keys)) n ∙ applied-same (removals keys) (put t k (Some [])) t (λ q none.
+    get-put t k (Some []) q ∙ ap (λ b. cond b (Some []) (get t q)) (is_eq-slice_cmp q k) ∙ elim (bytes_eq q k) as (λ b. bytes_eq q k ≡ b → cond b (Some []) (get t q) ≡ get t q) [
+      | true ↦ λ y. absurd (true≢false (sym (subst (λ x. has_key (removals keys) x ≡ true) (sym ((bytes_decides q k).0 y)) (listed keys i k l e)) ∙ none))
+      | false ↦ λ _. refl
+    ] refl)

@@ -1,5 +1,5 @@
 // The rows of a table in memory.
-ghost use Rattle.std.specs.Prelude.{◌≡◌, OnOk, OnErr, IfOk, IsSome, is_none};
+ghost use Rattle.std.specs.Prelude.{◌≡◌, OnOk, OnErr, IfOk, IsSome, Some, None, is_none};
 ghost use Rattle.std.specs.FinMap.{get};
 ghost use Rattle.gno_port.specs.Keeping.{IsNextKey};
 ghost use Rattle.gno_port.specs.Tables.{IsRising, applied, put};
@@ -71,6 +71,7 @@ fn copy_of(alloc: Global, value: &Option<Bytes>) -> Result<Option<Bytes>, AllocE
 }
 
 // Brings in each key that the changes give a value. After that they take no memory.
+#[tactic(auto, using(crate::proofs::FreshKeys::fresh_applied, crate::proofs::FreshKeys::fresh_removed, crate::proofs::FreshKeys::fresh_room))]
 fn make_room(alloc: Global, rows: &mut Rows, changes: &[Change]) -> Result<(), AllocError>
     requires { IsRising changes.now }
     ensures same { OnOk result (applied changes.now (rows_table rows.new) ≡ applied changes.now (rows_table rows.old)) }
@@ -78,11 +79,13 @@ fn make_room(alloc: Global, rows: &mut Rows, changes: &[Change]) -> Result<(), A
     ensures err { OnErr result (rows_table rows.new ≡ rows_table rows.old) }
 {
     let keys = new_keys(alloc, rows, changes)?;
-    let added = add_empty(alloc, rows, keys.as_slice());
-    if added.is_err() {
-        take_out(rows, keys.as_slice());
+    match add_empty(alloc, rows, keys.as_slice()) {
+        Ok(()) => Ok(()),
+        Err(AllocError) => {
+            take_out(rows, keys.as_slice());
+            Err(AllocError)
+        }
     }
-    added
 }
 
 // The keys that the changes give a value and that the rows lack.
@@ -106,23 +109,25 @@ fn is_absent(rows: &Rows, key: &[u8]) -> bool
 }
 
 // Gives each key an empty value. After an error some of them may have one.
-#[tactic(auto, using(crate::proofs::RowLemmas::rows_updated))]
 fn add_empty(alloc: Global, rows: &mut Rows, keys: &[Bytes]) -> Result<(), AllocError>
     ensures ok { OnOk result (rows_table rows.new ≡ applied (blanks keys.now) (rows_table rows.old)) }
     ensures others { applied (removals keys.now) (rows_table rows.new) ≡ applied (removals keys.now) (rows_table rows.old) }
 {
     for key in keys {
-        rows.insert(Vec::from_slice(alloc, key.as_slice())?, Bytes::new(alloc))?;
+        insert_row(
+            rows,
+            Vec::from_slice(alloc, key.as_slice())?,
+            Bytes::new(alloc),
+        )?;
     }
     Ok(())
 }
 
-#[tactic(auto, using(crate::proofs::RowLemmas::rows_updated))]
 fn take_out(rows: &mut Rows, keys: &[Bytes])
     ensures { rows_table rows.new ≡ applied (removals keys.now) (rows_table rows.old) }
 {
     for key in keys {
-        rows.remove(key.as_slice());
+        remove_row(rows, key.as_slice());
     }
 }
 
@@ -136,7 +141,6 @@ fn put_all(rows: &mut Rows, changes: List<Change>)
     }
 }
 
-#[tactic(auto, using(crate::proofs::RowLemmas::rows_updated, crate::proofs::RowLemmas::get_rows))]
 fn put_one(rows: &mut Rows, change: Change)
     requires { IsSome change.value → IsSome (get (rows_table rows.old) change.key) }
     ensures { rows_table rows.new ≡ put (rows_table rows.old) change.key change.value }
@@ -144,10 +148,30 @@ fn put_one(rows: &mut Rows, change: Change)
     let Change { key, value } = change;
     match value {
         Some(value) => {
-            let _ = rows.insert(key.into_vec(), value);
+            let _ = insert_row(rows, key.into_vec(), value);
         }
         None => {
-            rows.remove(key.as_slice());
+            remove_row(rows, key.as_slice());
         }
     }
+}
+
+// Puts a row in the place of the key's. Only a new key can want memory.
+#[tactic(auto, using(crate::proofs::RowLemmas::rows_updated, crate::proofs::RowLemmas::rows_same, crate::proofs::RowLemmas::get_rows))]
+fn insert_row(rows: &mut Rows, key: Vec<u8>, value: Bytes) -> Result<(), AllocError>
+    ensures ok { OnOk result (rows_table rows.new ≡ put (rows_table rows.old) key.items (Some value)) }
+    ensures err { OnErr result (rows_table rows.new ≡ rows_table rows.old) }
+    ensures absent { OnErr result (get (rows_table rows.old) key.items ≡ None) }
+{
+    match rows.insert(key, value) {
+        Ok(_) => Ok(()),
+        Err(_) => Err(AllocError),
+    }
+}
+
+#[tactic(auto, using(crate::proofs::RowLemmas::rows_updated))]
+fn remove_row(rows: &mut Rows, key: &[u8])
+    ensures { rows_table rows.new ≡ put (rows_table rows.old) key.now None }
+{
+    rows.remove(key);
 }
