@@ -1,5 +1,6 @@
 pub mod Causes
 pub mod Failing
+pub mod HeldTables
 pub mod Keeping
 pub mod MemorySink
 pub mod MemorySource

@@ -2,6 +2,7 @@
 #![tactic(auto)]
 
 mod failing;
+mod held;
 mod keeper;
 mod memory_sink;
 mod memory_source;
@@ -10,6 +11,7 @@ mod sink;
 mod source;
 
 pub use failing::{Called, FailAt};
+pub use held::{KeptRow, KeptTable};
 pub use keeper::{Batch, Change, KeepFault, Keeper};
 pub use memory_sink::MemorySink;
 pub use memory_source::MemorySource;

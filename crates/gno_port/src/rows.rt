@@ -158,7 +158,7 @@ fn put_one(rows: &mut Rows, change: Change)
 
 // Puts a row in the place of the key's. Only a new key can want memory.
 #[tactic(auto, using(crate::proofs::RowLemmas::rows_updated, crate::proofs::RowLemmas::rows_same, crate::proofs::RowLemmas::get_rows))]
-fn insert_row(rows: &mut Rows, key: Vec<u8>, value: Bytes) -> Result<(), AllocError>
+pub(crate) fn insert_row(rows: &mut Rows, key: Vec<u8>, value: Bytes) -> Result<(), AllocError>
     ensures ok { OnOk result (rows_table rows.new ≡ put (rows_table rows.old) key.items (Some value)) }
     ensures err { OnErr result (rows_table rows.new ≡ rows_table rows.old) }
     ensures absent { OnErr result (get (rows_table rows.old) key.items ≡ None) }
