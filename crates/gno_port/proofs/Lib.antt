@@ -1,4 +1,5 @@
 pub mod FreshKeys
+pub mod HeldLemmas
 pub mod RowLemmas
 pub mod Steps
 pub mod TableLemmas

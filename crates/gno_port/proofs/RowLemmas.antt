@@ -15,7 +15,10 @@ use Rattle.std.specs.Cmp.Lexicographic.{slice_cmp, nat_list_cmp_total}
 use Rattle.std.specs.declared.vec.Vec.{Vec}
 use Rattle.std.specs.declared.alloc.Global.{Global}
 use Rattle.std.specs.Map.{lookup, KeepsOthers, IsKeyTest, AreApart}
+use Rattle.std.specs.BTreeMap.{BTreeMap}
 use Rattle.std.specs.BTreeMap as tree
+use Rattle.std.specs.Str.{bytes_eq}
+use Rattle.std.proofs.lemmas.Map.Text.{is_eq-slice_cmp}
 use Rattle.std.specs.FinMap.{get, from_entries, find, get-from_entries, same_map, slice_cmp-IsAntisymmetric, nat_cmp-IsAntisymmetric, IsAntisymmetric}
 use Rattle.gno_port.specs.Tables.{Table, put, IsBelow}
 use Rattle.gno_port.specs.Rows.{Rows, rows_table}
@@ -40,22 +43,30 @@ get_rows rows q = get-from_entries nat_list_cmp_total _ q ∙ find-rows q rows.e
 same_bytes : (q bytes : List ℕ) → eq_by_cmp (slice_cmp nat_cmp) q bytes ≡ true → q ≡ bytes
 same_bytes q bytes e = order-IsAntisymmetric q bytes ((Equal-is (slice_cmp nat_cmp q bytes)).0 e)
 
-others : (old new : List (Vec ℕ Global × List ℕ)) (bytes q : List ℕ) → KeepsOthers (eq_by_cmp vec_cmp) (tree.is_at (at_bytes bytes)) old new
-    → eq_by_cmp (slice_cmp nat_cmp) q bytes ≡ false → lookup (tree.is_at (at_bytes q)) new ≡ lookup (tree.is_at (at_bytes q)) old
-unfolding KeepsOthers
-others old new bytes q h ne =
-    let same = eq_by_cmp_equiv nat_list_cmp_total in
-    h _ (λ x y. same.congr q x.items y.items) (λ k e. same.symm q k.items ∙ sym (same.congr bytes k.items q e) ∙ same.symm bytes q ∙ ne)
+module _ {X : Type 0} where
+  others : (old new : List (Vec ℕ Global × X)) (bytes q : List ℕ) → KeepsOthers (eq_by_cmp vec_cmp) (tree.is_at (at_bytes bytes)) old new
+      → eq_by_cmp (slice_cmp nat_cmp) q bytes ≡ false → lookup (tree.is_at (at_bytes q)) new ≡ lookup (tree.is_at (at_bytes q)) old
+  unfolding KeepsOthers
+  others old new bytes q h ne =
+      let same = eq_by_cmp_equiv nat_list_cmp_total in
+      h _ (λ x y. same.congr q x.items y.items) (λ k e. same.symm q k.items ∙ sym (same.congr bytes k.items q e) ∙ same.symm bytes q ∙ ne)
+
+  -- what one change of a map leaves at each key
+  pub updated_at : (m n : BTreeMap (Vec ℕ Global) X) (bytes : List ℕ) (value : Option X) → tree.UpdatesBy vec_cmp (at_bytes bytes) m n value
+      → (q : List ℕ) → tree.get_by (at_bytes q) n ≡ cond (bytes_eq q bytes) value (tree.get_by (at_bytes q) m)
+  updated_at m n bytes value h q =
+      ⊎_elim
+      (λ y. subst (λ k. tree.get_by (at_bytes k) n ≡ value) (sym (same_bytes q bytes y)) h.1 ∙ sym (cond-true _ value (tree.get_by (at_bytes q) m) y))
+      (λ f. others m.entries n.entries bytes q h.3 f ∙ sym (cond-false _ value (tree.get_by (at_bytes q) m) f))
+      (cases_Bool (eq_by_cmp (slice_cmp nat_cmp) q bytes))
+      ∙ ap (λ b. cond b value (tree.get_by (at_bytes q) m)) (is_eq-slice_cmp q bytes)
 
 -- one change of the rows is that change of their table
 pub rows_updated : (m n : Rows) (bytes : List ℕ) (value : Option (List ℕ)) → tree.UpdatesBy vec_cmp (at_bytes bytes) m n value → rows_table n ≡ put (rows_table m) bytes value
 rows_updated m n bytes value h = same_map nat_list_cmp_total order-IsAntisymmetric _ _ (λ q.
-    get_rows n q
-    ∙ ⊎_elim
-    (λ y. subst (λ k. tree.get_by (at_bytes k) n ≡ value) (sym (same_bytes q bytes y)) h.1 ∙ sym (cond-true _ value (get (rows_table m) q) y))
-    (λ f. others m.entries n.entries bytes q h.3 f ∙ sym (get_rows m q) ∙ sym (cond-false _ value (get (rows_table m) q) f))
-    (cases_Bool (eq_by_cmp (slice_cmp nat_cmp) q bytes))
-    ∙ sym (get-put (rows_table m) bytes value q))
+    get_rows n q ∙ updated_at m n bytes value h q
+    ∙ ap (cond (bytes_eq q bytes) value) (sym (get_rows m q))
+    ∙ sym (get-put (rows_table m) bytes value q ∙ ap (λ b. cond b value (get (rows_table m) q)) (is_eq-slice_cmp q bytes)))
 
 pub rows_same : (m n : Rows) → n.entries ≡ m.entries → rows_table n ≡ rows_table m
 rows_same m n e = ap (λ es. from_entries (map (λ row. (row.0.items, row.1)) es)) e

@@ -2,6 +2,7 @@ pub mod Causes
 pub mod Failing
 pub mod HeldTables
 pub mod Keeping
+pub mod MemoryKeeper
 pub mod MemorySink
 pub mod MemorySource
 pub mod Rows

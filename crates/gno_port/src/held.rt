@@ -1,11 +1,13 @@
 // The tables that a keeper in memory holds.
 ghost use Rattle.std.specs.Prelude.{◌≡◌, ℕ, List as list, IfOk, OnOk, OnErr, IsTrue, ◌↔◌, Some, None, IsSome};
-ghost use Rattle.std.specs.FinMap.{empty};
+ghost use Rattle.std.specs.FinMap.{empty, get};
+ghost use Rattle.gno_port.specs.Keeping.{IsNextKey};
 ghost use Rattle.gno_port.specs.Rows.{rows_table};
-ghost use Rattle.gno_port.specs.Tables.{Table, applied};
+ghost use Rattle.gno_port.specs.Tables.{Table, IsRising, applied};
 ghost use Rattle.gno_port.specs.HeldTables.{row_changes, given_table, shelved, found_or, desk_or, table_of, desk_name};
 
-use crate::rows::{Rows, insert_row};
+use crate::Change;
+use crate::rows::{Rows, apply_to, insert_row, key_after, value_of};
 use gno_base::{Bytes, List};
 use std::alloc::{AllocError, Global};
 use std::collections::BTreeMap;
@@ -68,6 +70,40 @@ impl HeldTables {
         let rows = self.shelf.remove(name.as_slice()).unwrap_or(fresh);
         self.desk = Some(HeldTable { name, rows });
         Ok(())
+    }
+
+    // The value of a key of the table on the desk.
+    pub(crate) fn get(&self, alloc: Global, key: &[u8]) -> Result<Option<Bytes>, AllocError>
+        ensures { IfOk result (λ found. (name : list ℕ) → desk_name self.now.desk ≡ Some name → found ≡ get (table_of self.now name) key.now) }
+    {
+        match &self.desk {
+            Some(held) => value_of(alloc, &held.rows, key),
+            None => Ok(None),
+        }
+    }
+
+    // The least key of the table on the desk that is greater than the given one.
+    pub(crate) fn after(&self, alloc: Global, key: &[u8]) -> Result<Option<Bytes>, AllocError>
+        ensures { IfOk result (λ next. (name : list ℕ) → desk_name self.now.desk ≡ Some name → IsNextKey (table_of self.now name) key.now next) }
+    {
+        match &self.desk {
+            Some(held) => key_after(alloc, &held.rows, key),
+            None => Ok(None),
+        }
+    }
+
+    // Makes all the changes in the table on the desk, or none.
+    pub(crate) fn apply(&mut self, alloc: Global, changes: &[Change]) -> Result<(), AllocError>
+        requires { IsRising changes.now }
+        ensures ok { OnOk result ((name : list ℕ) → desk_name self.old.desk ≡ Some name → table_of self.new name ≡ applied changes.now (table_of self.old name)) }
+        ensures others { OnOk result ((name : list ℕ) → (desk_name self.old.desk ≡ Some name → ⊥) → table_of self.new name ≡ table_of self.old name) }
+        ensures err { OnErr result ((name : list ℕ) → table_of self.new name ≡ table_of self.old name) }
+        ensures desk { desk_name self.new.desk ≡ desk_name self.old.desk }
+    {
+        match &mut self.desk {
+            Some(held) => apply_to(alloc, &mut held.rows, changes),
+            None => Ok(()),
+        }
     }
 
     // The rows that were given under a name. They stay unread where the table stands on the shelf.

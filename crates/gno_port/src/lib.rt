@@ -4,6 +4,7 @@
 mod failing;
 mod held;
 mod keeper;
+mod memory_keeper;
 mod memory_sink;
 mod memory_source;
 mod rows;
@@ -13,6 +14,7 @@ mod source;
 pub use failing::{Called, FailAt};
 pub use held::{KeptRow, KeptTable};
 pub use keeper::{Batch, Change, KeepFault, Keeper};
+pub use memory_keeper::MemoryKeeper;
 pub use memory_sink::MemorySink;
 pub use memory_source::MemorySource;
 pub use sink::{Sink, WriteFault, write_all};
