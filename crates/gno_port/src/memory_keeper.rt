@@ -112,6 +112,7 @@ impl Keeper for MemoryKeeper {
     }
 
     fn get(&mut self, alloc: Global, key: &[u8]) -> Result<Option<Bytes>, KeepFault>
+        requires { has_open self.old ≡ true }
         ensures value { IfOk result (λ found. Gets (told self.old (last_opened self.old)) key.now found) }
         ensures tables { told self.new ≡ told self.old }
         ensures open { (has_open self.new ≡ true) × (last_opened self.new ≡ last_opened self.old) }
@@ -136,6 +137,7 @@ impl Keeper for MemoryKeeper {
     }
 
     fn after(&mut self, alloc: Global, key: &[u8]) -> Result<Option<Bytes>, KeepFault>
+        requires { has_open self.old ≡ true }
         ensures key { IfOk result (λ next. NextKey (told self.old (last_opened self.old)) key.now next) }
         ensures tables { told self.new ≡ told self.old }
         ensures open { (has_open self.new ≡ true) × (last_opened self.new ≡ last_opened self.old) }
@@ -160,6 +162,8 @@ impl Keeper for MemoryKeeper {
     }
 
     fn apply(&mut self, alloc: Global, batch: &Batch) -> Result<(), KeepFault>
+        requires open { has_open self.old ≡ true }
+        requires rising { IsRising batch.now.changes }
         ensures ok { OnOk result (Puts (told self.old) (told self.new) (last_opened self.old) batch.now.changes) }
         ensures count { OnOk result (keeper_changes self.new ≡ min (keeper_changes self.old + length batch.now.changes) (2 ^ 64 - 1)) }
         ensures err { OnErr result ((told self.new ≡ told self.old) × (keeper_changes self.new ≡ keeper_changes self.old)) }
