@@ -1,4 +1,5 @@
 pub mod Causes
+pub mod Changes
 pub mod Failing
 pub mod HeldTables
 pub mod Keeping

@@ -1,6 +1,7 @@
 //! What the program meets: a source, a sink and a keeper of tables, and forms of each in memory.
 #![tactic(auto)]
 
+mod changes;
 mod failing;
 mod held;
 mod keeper;
@@ -11,6 +12,7 @@ mod rows;
 mod sink;
 mod source;
 
+pub use changes::Changes;
 pub use failing::{Called, FailAt};
 pub use held::{KeptRow, KeptTable};
 pub use keeper::{Batch, Change, KeepFault, Keeper};
