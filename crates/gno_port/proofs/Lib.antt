@@ -1,3 +1,4 @@
+pub mod ChangeLemmas
 pub mod FreshKeys
 pub mod HeldLemmas
 pub mod RowLemmas
