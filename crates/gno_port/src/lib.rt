@@ -11,6 +11,8 @@ mod memory_source;
 mod rows;
 mod sink;
 mod source;
+#[cfg(test)]
+mod tests;
 
 pub use changes::Changes;
 pub use failing::{Called, FailAt};
