@@ -147,12 +147,11 @@ fn put_one(rows: &mut Rows, change: Change)
 {
     let Change { key, value } = change;
     match value {
+        // The key is there, so this wants no memory.
         Some(value) => {
             let _ = insert_row(rows, key.into_vec(), value);
         }
-        None => {
-            remove_row(rows, key.as_slice());
-        }
+        None => remove_row(rows, key.as_slice()),
     }
 }
 
