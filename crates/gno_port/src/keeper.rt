@@ -10,7 +10,9 @@ use std::alloc::Global;
 /// Why a keeper didn't do what it was asked.
 #[derive(Clone, Copy, Debug, PartialEq, Eq)]
 pub enum KeepFault {
+    /// The device failed, and its count of faults rose.
     Failed,
+    /// There was no memory for the answer or the change.
     NoMemory,
 }
 
@@ -56,7 +58,7 @@ pub trait Keeper {
         ensures cause { IsErrOf result KeepFault.Failed → Rose (faults self.old) (faults self.new) }
         ensures later { faults self.old ≤ faults self.new };
 
-    /// The value of a key of the open table.
+    /// The value of a key of the open table, if it has one.
     fn get(&mut self, alloc: Global, key: &[u8]) -> Result<Option<Bytes>, KeepFault>
         requires { is_open self.old ≡ true }
         ensures value { IfOk result (λ found. Gets (tables self.old (open_name self.old)) key.now found) }
@@ -66,7 +68,7 @@ pub trait Keeper {
         ensures cause { IsErrOf result KeepFault.Failed → Rose (faults self.old) (faults self.new) }
         ensures later { faults self.old ≤ faults self.new };
 
-    /// The least key of the open table that is greater than the given one.
+    /// The least key of the open table that is greater than the given one, if there is one.
     fn after(&mut self, alloc: Global, key: &[u8]) -> Result<Option<Bytes>, KeepFault>
         requires { is_open self.old ≡ true }
         ensures key { IfOk result (λ next. NextKey (tables self.old (open_name self.old)) key.now next) }

@@ -26,8 +26,11 @@ pub trait Source {
 /// Why not all was read.
 #[derive(Clone, Copy, Debug, PartialEq, Eq)]
 pub enum ReadFault {
+    /// The source failed, and its count of faults rose.
     Failed,
+    /// More bytes were left than the limit.
     TooLong,
+    /// There was no memory for the bytes.
     NoMemory,
 }
 
