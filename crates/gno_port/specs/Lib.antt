@@ -1,0 +1,11 @@
+pub mod Causes
+pub mod Changes
+pub mod Failing
+pub mod HeldTables
+pub mod Keeping
+pub mod MemoryKeeper
+pub mod MemorySink
+pub mod MemorySource
+pub mod Rows
+pub mod Streams
+pub mod Tables
