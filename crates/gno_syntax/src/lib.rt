@@ -2,7 +2,9 @@
 #![tactic(auto)]
 
 mod token;
+mod tokens;
 mod tree;
 
 pub use token::Token;
+pub use tokens::tokens_of;
 pub use tree::{FirstExpr, FirstFile, FirstFunc, FirstStmt};
