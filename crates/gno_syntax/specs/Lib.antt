@@ -1,3 +1,5 @@
 pub mod Names
 pub mod Lawful
 pub mod Tokens
+pub mod Form
+pub mod Reader
