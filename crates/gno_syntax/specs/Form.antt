@@ -27,18 +27,18 @@ result_tokens false = []
 
 -- an expression: the name of a variable
 pub data IsExpr (variables : List (List ℕ)) : List Token → FirstExpr → Type 0 where
-  name : (name : List ℕ) (n : ℕ) → slice_get variables n ≡ Some name → IsExpr variables (Word name ∷ []) (expr.Name n)
+  named : (name : List ℕ) (n : ℕ) → slice_get variables n ≡ Some name → IsExpr variables (Word name ∷ []) (expr.Name n)
 
 -- Stmt = name "++" | "return" name .
 pub data IsStmt (variables : List (List ℕ)) : List Token → FirstStmt → Type 0 where
-  increment : (name : List ℕ) (n : ℕ) → slice_get variables n ≡ Some name → IsStmt variables (Word name ∷ Increment ∷ []) (stmt.Increment n)
+  incremented : (name : List ℕ) (n : ℕ) → slice_get variables n ≡ Some name → IsStmt variables (Word name ∷ Increment ∷ []) (stmt.Increment n)
   returned : (part : List Token) (e : FirstExpr) → IsExpr variables part e → IsStmt variables (Word (codes "return") ∷ part) (stmt.Return e)
 
 -- { Stmt ";" }, where the last semicolon may be left out
 pub data IsBody (variables : List (List ℕ)) : List Token → List FirstStmt → Type 0 where
-  none : IsBody variables [] []
-  last : (part : List Token) (s : FirstStmt) → IsStmt variables part s → IsBody variables part (s ∷ [])
-  more : (part rest : List Token) (s : FirstStmt) (body : List FirstStmt) → IsStmt variables part s → IsBody variables rest body → IsBody variables (part ++ Semicolon ∷ rest) (s ∷ body)
+  no_statement : IsBody variables [] []
+  last_statement : (part : List Token) (s : FirstStmt) → IsStmt variables part s → IsBody variables part (s ∷ [])
+  next_statement : (part rest : List Token) (s : FirstStmt) (body : List FirstStmt) → IsStmt variables part s → IsBody variables rest body → IsBody variables (part ++ Semicolon ∷ rest) (s ∷ body)
 
 -- Func = "func" name "(" "cur" "realm" ")" [ "int" ] "{" { Stmt ";" } "}" .
 pub record IsFunc (variables : List (List ℕ)) (part : List Token) (function : FirstFunc) : Type 0 where
@@ -49,8 +49,8 @@ pub record IsFunc (variables : List (List ℕ)) (part : List Token) (function : 
 
 -- { Func ";" }
 pub data AreFuncs (variables : List (List ℕ)) : List Token → List FirstFunc → Type 0 where
-  none : AreFuncs variables [] []
-  more : (part rest : List Token) (function : FirstFunc) (functions : List FirstFunc) → IsFunc variables part function → AreFuncs variables rest functions
+  no_function : AreFuncs variables [] []
+  next_function : (part rest : List Token) (function : FirstFunc) (functions : List FirstFunc) → IsFunc variables part function → AreFuncs variables rest functions
       → AreFuncs variables (part ++ Semicolon ∷ rest) (function ∷ functions)
 
 -- File = "package" name ";" { "var" name "int" ";" } { Func ";" } .

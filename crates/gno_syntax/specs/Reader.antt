@@ -1,5 +1,5 @@
 -- The reader of the first form, as functions on lists of tokens.
-use Rattle.std.specs.Prelude.{◌≡◌, ℕ, zero, suc, ◌<◌, List, [], ◌∷◌, ◌++◌, length, take, Bool, true, false, not, ◌&&◌, if◌then◌else◌, Option, Some, None, Result, Ok, Err, option_map, position, nat_lt, nat_le, codes, bytes_eq}
+use Rattle.std.specs.Prelude.{◌≡◌, ℕ, zero, suc, ◌<◌, List, [], ◌∷◌, ◌++◌, length, take, Bool, true, false, not, ◌&&◌, if◌then◌else◌, Option, Some, None, Result, Ok, Err, option_map, nat_lt, nat_le, codes, bytes_eq}
 use Rattle.gno_syntax.specs.declared.token.Token.{Token}
 use Rattle.gno_syntax.specs.declared.token.Token.TheVariants.{Word, Increment, LeftParen, RightParen, LeftBrace, RightBrace, Semicolon}
 use Rattle.gno_syntax.specs.declared.tree.FirstFile.{FirstFile}
@@ -15,12 +15,12 @@ use Rattle.gno_syntax.specs.Tokens.{tokens_in}
 abbrev pub Found : Type 0 → Type 0
 Found A = Option (A × List Token)
 
-abbrev pub and_then : {A B : Type 0} → Found A → (A → List Token → Found B) → Found B
+unfoldable pub and_then : {A B : Type 0} → Found A → (A → List Token → Found B) → Found B
 and_then None next = None
 and_then (Some found) next = next found.0 found.1
 
 -- the value, where the test holds
-abbrev pub where_true : {A : Type 0} → Bool → A → List Token → Found A
+unfoldable pub where_true : {A : Type 0} → Bool → A → List Token → Found A
 where_true false value rest = None
 where_true true value rest = Some (value, rest)
 
@@ -90,13 +90,18 @@ variable names tokens =
 unfoldable pub variables : List Token → Found (List (List ℕ))
 variables tokens = repeats (at_keyword (codes "var")) variable [] tokens
 
+-- the place of a name in a list
+abbrev pub place : List ℕ → List (List ℕ) → Option ℕ
+place name [] = None
+place name (other ∷ names) = if bytes_eq name other then Some 0 else option_map suc (place name names)
+
 -- the number of a variable: its place among the names, of which the first `count` are variables
 abbrev pub below : ℕ → Option ℕ → Option ℕ
 below count None = None
 below count (Some n) = if nat_lt n count then Some n else None
 
 unfoldable pub number : ℕ → List (List ℕ) → List ℕ → Option ℕ
-number count names name = below count (position (bytes_eq name) names)
+number count names name = below count (place name names)
 
 abbrev pub found_number : Option ℕ → List Token → Found ℕ
 found_number None rest = None

@@ -1,0 +1,4 @@
+pub mod Repeats
+pub mod Places
+pub mod Distinct
+pub mod Pieces
