@@ -5,3 +5,4 @@ pub mod Pieces
 pub mod Shorter
 pub mod Sound
 pub mod Complete
+pub mod FormLaws
