@@ -1,6 +1,7 @@
 //! The first form of a source file.
 #![tactic(auto)]
 
+mod names;
 mod token;
 mod tokens;
 mod tree;
