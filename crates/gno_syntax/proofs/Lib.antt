@@ -6,3 +6,4 @@ pub mod Shorter
 pub mod Sound
 pub mod Complete
 pub mod FormLaws
+pub mod Tables

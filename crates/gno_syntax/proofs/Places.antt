@@ -2,7 +2,7 @@
 use Rattle.std.proofs.Common.{◌≡◌, ℕ, zero, suc, ◌<◌, ◌≤◌, List, [], ◌∷◌, ◌++◌, length, take, Bool, true, false, cond, refl, sym, ◌∙◌, ap, Option, Some, None, arith, ◌&&◌, ◌||◌, not, append_assoc, subst}
 use Rattle.std.specs.Str.{bytes_eq}
 use Rattle.std.specs.List.{list_all, list_any, slice_get}
-use Rattle.std.specs.Option.{option_map}
+use Rattle.std.specs.Option.{option_map, is_some}
 use Rattle.std.specs.Bool.{nat_lt}
 use Rattle.std.proofs.lemmas.Slice.Eq.{bytes_eq-Decides}
 use Rattle.std.proofs.lemmas.Bool.Decides.{nat_tests}
@@ -48,6 +48,13 @@ is_among_place name (x ∷ xs) n e =
         [ true ↦ λ h. refl
         | false ↦ λ h. elim (place name xs) as (λ o. place name xs ≡ o → option_map suc o ≡ Some n → list_any (bytes_eq name) xs ≡ true)
             [ None ↦ λ p q. cc | Some m ↦ λ p q. is_among_place name xs m p ] refl h ] e
+
+pub among_is_placed : (name : List ℕ) (names : List (List ℕ)) → is_among names name ≡ is_some (place name names)
+among_is_placed name [] = refl
+among_is_placed name (x ∷ xs) =
+    elim (bytes_eq name x) as (λ b. (b || list_any (bytes_eq name) xs) ≡ is_some (cond b (Some 0) (option_map suc (place name xs))))
+        [ true ↦ refl
+        | false ↦ among_is_placed name xs ∙ elim (place name xs) as (λ o. is_some o ≡ is_some (option_map suc o)) [ None ↦ refl | Some n ↦ refl ] ]
 
 -- the places after a new name has come to the end
 pub place_push : (q name : List ℕ) (names : List (List ℕ)) → place name names ≡ None → place q (names ++ name ∷ []) ≡ cond (bytes_eq name q) (Some (length names)) (place q names)

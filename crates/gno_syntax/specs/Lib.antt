@@ -3,3 +3,4 @@ pub mod Lawful
 pub mod Tokens
 pub mod Form
 pub mod Reader
+pub mod Scope

@@ -1,11 +1,15 @@
 //! The first form of a source file.
 #![tactic(auto)]
 
+mod first;
 mod names;
+mod scope;
 mod token;
 mod tokens;
 mod tree;
 
+pub use first::FirstFault;
+pub use names::is_name;
 pub use token::Token;
 pub use tokens::tokens_of;
 pub use tree::{FirstExpr, FirstFile, FirstFunc, FirstStmt};
