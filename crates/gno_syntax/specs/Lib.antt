@@ -4,3 +4,4 @@ pub mod Tokens
 pub mod Form
 pub mod Reader
 pub mod Scope
+pub mod Cursor

@@ -1,14 +1,14 @@
 //! The first form of a source file.
 #![tactic(auto)]
 
-mod first;
+mod cursor;
 mod names;
 mod scope;
 mod token;
 mod tokens;
 mod tree;
 
-pub use first::FirstFault;
+pub use cursor::FirstFault;
 pub use names::is_name;
 pub use token::Token;
 pub use tokens::tokens_of;
