@@ -2,6 +2,9 @@
 use Rattle.std.proofs.Common.{◌≡◌, ℕ, zero, suc, ◌<◌, ◌≤◌, List, length, Bool, true, false, cond, refl, sym, ◌∙◌, ap, Option, Some, None, arith}
 use Rattle.gno_syntax.specs.declared.token.Token.{Token}
 use Rattle.gno_syntax.specs.Reader.{Found, and_then, repeated, repeats}
+use Rattle.gno_syntax.specs.Cursor.{Fails}
+use Rattle.gno_syntax.specs.declared.cursor.FirstFault.{FirstFault}
+use Rattle.gno_syntax.specs.declared.cursor.FirstFault.TheVariants.{NotFirst, NoMemory}
 
 -- what is read in two steps, taken apart
 pub record Both {A B : Type 0} (found : Found A) (next : A → List Token → Found B) (value : B) (rest : List Token) : Type 0 where
@@ -63,3 +66,16 @@ module _ {S : Type 0} (goes_on : List Token → Bool) (step : S → List Token �
   -- where a step fails
   pub repeats_fails : (state : S) (tokens : List Token) → goes_on tokens ≡ true → step state tokens ≡ None → repeats goes_on step state tokens ≡ None
   repeats_fails state tokens e r = repeats_step state tokens ∙ ap (λ b. cond b (and_then (step state tokens) (repeats goes_on step)) (Some (state, tokens))) e ∙ and_then_none (step state tokens) (repeats goes_on step) r
+
+  -- the same in terms of the whole of a repetition, as a loop that runs it keeps it
+  pub whole_end : (whole : Found S) (state : S) (tokens : List Token) → goes_on tokens ≡ false → whole ≡ repeats goes_on step state tokens → whole ≡ Some (state, tokens)
+  whole_end whole state tokens e w = w ∙ repeats_end state tokens e
+
+  pub whole_more : (whole : Found S) (state : S) (tokens : List Token) (next : S) (rest : List Token) → goes_on tokens ≡ true → step state tokens ≡ Some (next, rest)
+      → whole ≡ repeats goes_on step state tokens → whole ≡ repeats goes_on step next rest
+  whole_more whole state tokens next rest e r w = w ∙ repeats_more state tokens next rest e r
+
+  pub whole_fails : (whole : Found S) (state : S) (tokens : List Token) (fault : FirstFault) → goes_on tokens ≡ true → Fails (step state tokens) fault
+      → whole ≡ repeats goes_on step state tokens → Fails whole fault
+  whole_fails whole state tokens NotFirst e r w = w ∙ repeats_fails state tokens e r
+  whole_fails whole state tokens NoMemory e r w = tt

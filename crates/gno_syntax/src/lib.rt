@@ -2,6 +2,7 @@
 #![tactic(auto)]
 
 mod cursor;
+mod first;
 mod names;
 mod scope;
 mod token;
