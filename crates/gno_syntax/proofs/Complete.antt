@@ -16,7 +16,8 @@ use Rattle.gno_syntax.specs.declared.tree.FirstExpr.TheVariants as expr
 use Rattle.gno_syntax.specs.Names.{is_name}
 use Rattle.gno_syntax.specs.Lawful.{IsExprIn, IsStmtIn, IsBodyIn, AreFuncsIn, IsLawful, declared_names, are_distinct}
 use Rattle.gno_syntax.specs.Form.{variable_tokens, result_tokens, IsExpr, named, IsStmt, incremented, returned, IsBody, no_statement, last_statement, next_statement, IsFunc, AreFuncs, no_function, next_function, Reads}
-use Rattle.gno_syntax.specs.Reader.{Found, and_then, where_true, same_symbol, at_symbol, at_keyword, symbol, word, keyword, package_clause, is_new, variable, variables, parameters, has_result, number, found_number, variable_name, expression, return_statement, increment_statement, statement, end_of_statement, one_more, statements, repeats, repeated, block, ends_well, function, functions, is_left, Declared, with_function, one_more_function, file_in, file_of, value_of}
+use Rattle.gno_syntax.specs.declared.declared.Declared.{Declared}
+use Rattle.gno_syntax.specs.Reader.{Found, and_then, where_true, same_symbol, at_symbol, at_keyword, symbol, word, keyword, package_clause, is_new, variable, variables, parameters, has_result, number, found_number, variable_name, expression, return_statement, increment_statement, statement, end_of_statement, one_more, statements, repeats, repeated, block, ends_well, function, functions, is_left, with_function, one_more_function, file_in, file_of, value_of}
 use Rattle.gno_syntax.proofs.Repeats.{and_then_some, repeats_end, repeats_more}
 use Rattle.gno_syntax.proofs.Places.{same_bytes, both_true}
 use Rattle.gno_syntax.proofs.Distinct.{AreNames, no_names, one_more_name, names_in_front, next_is_new, number_at}
@@ -118,27 +119,26 @@ module _ (vs more : List (List ℕ)) (lawful : AreNames vs) where
   unfolding parameters keyword word symbol same_symbol and_then where_true
   parameters_at rest = refl
 
-  function_spelled_at : (f : FirstFunc) (body rest : List Token) → IsBody vs body f.body → ends_well f.has_int f.body ≡ true → is_new (vs ++ more) f.name ≡ true
+  function_spelled_at : (f : FirstFunc) (body rest : List Token) → IsBody vs body f.body → ends_well f.has_int f.body ≡ true
       → function (length vs) (vs ++ more) (Word (codes "func") ∷ Word f.name ∷ (parameter_tokens ++ (result_tokens f.has_int ++ LeftBrace ∷ (body ++ RightBrace ∷ rest)))) ≡ Some (f, rest)
-  unfolding function word and_then where_true
-  function_spelled_at f body rest reads ends fresh =
+  unfolding function word and_then
+  function_spelled_at f body rest reads ends =
       rw (keyword_at (codes "func") (Word f.name ∷ (parameter_tokens ++ (result_tokens f.has_int ++ LeftBrace ∷ (body ++ RightBrace ∷ rest)))),
           parameters_at (result_tokens f.has_int ++ LeftBrace ∷ (body ++ RightBrace ∷ rest)),
           has_result_at f.has_int (body ++ RightBrace ∷ rest),
-          block_at f.has_int body f.body rest reads ends,
-          fresh) refl
+          block_at f.has_int body f.body rest reads ends) refl
 
   regroup : (name : List ℕ) (result body rest : List Token)
       → (Word (codes "func") ∷ Word name ∷ (parameter_tokens ++ (result ++ LeftBrace ∷ (body ++ RightBrace ∷ [])))) ++ rest
       ≡ Word (codes "func") ∷ Word name ∷ (parameter_tokens ++ (result ++ LeftBrace ∷ (body ++ RightBrace ∷ rest)))
   regroup name result body rest = simp append_assoc
 
-  pub function_at : (part : List Token) (f : FirstFunc) (rest : List Token) → IsFunc vs part f → ends_well f.has_int f.body ≡ true → is_new (vs ++ more) f.name ≡ true
+  pub function_at : (part : List Token) (f : FirstFunc) (rest : List Token) → IsFunc vs part f → ends_well f.has_int f.body ≡ true
       → function (length vs) (vs ++ more) (part ++ rest) ≡ Some (f, rest)
-  function_at part f rest reads ends fresh =
+  function_at part f rest reads ends =
       ap (λ ts. function (length vs) (vs ++ more) (ts ++ rest)) reads.spelled
       ∙ ap (function (length vs) (vs ++ more)) (regroup f.name (result_tokens f.has_int) reads.body rest)
-      ∙ function_spelled_at f reads.body rest reads.reads ends fresh
+      ∙ function_spelled_at f reads.body rest reads.reads ends
 
 pub ends_of : (count : ℕ) (has_int : Bool) (body : List FirstStmt) → IsBodyIn count has_int body → ends_well has_int body ≡ true
 ends_of count false [] h = refl
@@ -158,8 +158,8 @@ function_step_at : (vs more : List (List ℕ)) (declared : Declared) (part : Lis
 unfolding one_more_function and_then symbol same_symbol where_true
 function_step_at vs more declared part f rest lawful names reads ends fresh =
     let here : function (length vs) declared.names (part ++ Semicolon ∷ rest) ≡ Some (f, Semicolon ∷ rest) =
-        ap (λ l. function (length vs) l (part ++ Semicolon ∷ rest)) names ∙ function_at vs more lawful part f (Semicolon ∷ rest) reads ends (subst (λ l. is_new l f.name ≡ true) names fresh) in
-    rw here refl
+        ap (λ l. function (length vs) l (part ++ Semicolon ∷ rest)) names ∙ function_at vs more lawful part f (Semicolon ∷ rest) reads ends in
+    rw (here, fresh) refl
 
 declared_same : (names others : List (List ℕ)) (fs gs : List FirstFunc) → names ≡ others → fs ≡ gs → ◌≡◌ {A = Declared} (record { names = names; functions = fs }) (record { names = others; functions = gs })
 declared_same names others fs gs p q = rw (p, q) refl

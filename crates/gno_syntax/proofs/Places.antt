@@ -9,7 +9,8 @@ use Rattle.std.proofs.lemmas.Bool.Decides.{nat_tests}
 use Rattle.std.proofs.lemmas.List.Folds.{list_any-append, list_all-append}
 use Rattle.gno_syntax.specs.Names.{is_among, is_name}
 use Rattle.gno_syntax.specs.Lawful.{are_distinct}
-use Rattle.gno_syntax.specs.Reader.{place, below, number, is_new}
+use Rattle.gno_syntax.specs.Places.{place}
+use Rattle.gno_syntax.specs.Reader.{below, number, is_new}
 
 pub same_bytes : (xs : List ℕ) → bytes_eq xs xs ≡ true
 same_bytes xs = (bytes_eq-Decides xs xs).1 refl

@@ -9,7 +9,8 @@ use Rattle.gno_syntax.specs.declared.tree.FirstFunc.{FirstFunc}
 use Rattle.gno_syntax.specs.declared.tree.FirstExpr.{FirstExpr}
 use Rattle.gno_syntax.specs.declared.tree.FirstExpr.TheVariants as expr
 use Rattle.gno_syntax.specs.Form.{variable_tokens, result_tokens}
-use Rattle.gno_syntax.specs.Reader.{Found, and_then, where_true, at_symbol, at_keyword, symbol, word, keyword, is_new, variable, parameters, has_result, number, found_number, variable_name, expression, return_statement, increment_statement, statement, end_of_statement, one_more, statements, repeats, repeated, block, ends_well, function, Declared, with_function, one_more_function}
+use Rattle.gno_syntax.specs.declared.declared.Declared.{Declared}
+use Rattle.gno_syntax.specs.Reader.{Found, and_then, where_true, at_symbol, at_keyword, symbol, word, keyword, is_new, variable, parameters, has_result, number, found_number, variable_name, expression, return_statement, increment_statement, statement, end_of_statement, one_more, statements, repeats, repeated, block, ends_well, function, with_function, one_more_function}
 use Rattle.gno_syntax.proofs.Repeats.{both, Both, Shortens}
 use Rattle.gno_syntax.proofs.Pieces.{holds, Holds, symbol_is, word_is, keyword_is, IsVariable, variable_is, parameter_tokens, parameters_is, has_result_is}
 
@@ -155,8 +156,8 @@ module _ (count : ℕ) where
       let in_result : length d.middle ≤ length c.middle = result_keeps c.middle d.first d.middle (has_result_is c.middle d.first d.middle d.reads) in
       let x = both (block count names d.first d.middle) _ f rest d.goes_on in
       let in_block = block_takes names d.first d.middle x.first x.middle x.reads in
-      let h = holds (is_new names b.first) _ x.middle f rest x.goes_on in
-      let q : length x.middle ≡ length rest = ap length h.rest_is in
+      let made : FirstFunc = record { name = b.first; has_int = d.first; body = x.first } in
+      let q : length x.middle ≡ length rest = ap length (some_pair_parts made f x.middle rest x.goes_on).1 in
       omega arith
     where
       parameters_keep : (tokens rest : List Token) → tokens ≡ parameter_tokens ++ rest → length rest ≤ length tokens
@@ -172,6 +173,6 @@ module _ (count : ℕ) where
       let taken = function_takes declared.names tokens a.first a.middle a.reads in
       let b = both (symbol Semicolon a.middle) _ all rest a.goes_on in
       let more = symbol_takes Semicolon a.middle b.first b.middle b.reads in
-      let p = (some_pair_parts (with_function declared a.first) all b.middle rest b.goes_on).1 in
-      let q : length b.middle ≡ length rest = ap length p in
+      let h = holds (is_new declared.names a.first.name) (with_function declared a.first) b.middle all rest b.goes_on in
+      let q : length b.middle ≡ length rest = ap length h.rest_is in
       omega arith

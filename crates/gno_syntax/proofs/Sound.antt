@@ -13,7 +13,8 @@ use Rattle.gno_syntax.specs.declared.tree.FirstExpr.TheVariants as expr
 use Rattle.gno_syntax.specs.Names.{is_name}
 use Rattle.gno_syntax.specs.Lawful.{IsExprIn, IsStmtIn, IsBodyIn, AreFuncsIn, IsLawful, declared_names, are_distinct}
 use Rattle.gno_syntax.specs.Form.{variable_tokens, result_tokens, IsExpr, named, IsStmt, incremented, returned, IsBody, no_statement, last_statement, next_statement, IsFunc, AreFuncs, no_function, next_function, Reads}
-use Rattle.gno_syntax.specs.Reader.{Found, and_then, where_true, at_symbol, at_keyword, symbol, word, keyword, package_clause, is_new, variable, variables, parameters, has_result, statement, end_of_statement, one_more, statements, repeats, repeated, block, ends_well, function, functions, is_left, Declared, with_function, one_more_function, file_in, file_of, value_of}
+use Rattle.gno_syntax.specs.declared.declared.Declared.{Declared}
+use Rattle.gno_syntax.specs.Reader.{Found, and_then, where_true, at_symbol, at_keyword, symbol, word, keyword, package_clause, is_new, variable, variables, parameters, has_result, statement, end_of_statement, one_more, statements, repeats, repeated, block, ends_well, function, functions, is_left, with_function, one_more_function, file_in, file_of, value_of}
 use Rattle.gno_syntax.proofs.Repeats.{both, Both, Shortens}
 use Rattle.gno_syntax.proofs.Distinct.{AreNames, no_names, one_more_name}
 use Rattle.gno_syntax.proofs.Pieces.{holds, Holds, symbol_is, word_is, keyword_is, IsVariable, variable_is, parameter_tokens, parameters_is, has_result_is, Front, statement_is, package_clause_is}
@@ -173,7 +174,6 @@ module _ (vs more : List (List ℕ)) where
   pub record IsLawfulFunc (tokens : List Token) (f : FirstFunc) (rest : List Token) : Type 0 where
     pub front : Front (IsFunc vs) tokens f rest
     pub ends : ends_well f.has_int f.body ≡ true
-    pub is_fresh : is_new (vs ++ more) f.name ≡ true
 
   spelled_func : (name : List ℕ) (result body tokens a b c d rest : List Token) → tokens ≡ Word (codes "func") ∷ a → a ≡ Word name ∷ b → b ≡ parameter_tokens ++ c → c ≡ result ++ d
       → d ≡ LeftBrace ∷ (body ++ RightBrace ∷ rest) → tokens ≡ (Word (codes "func") ∷ Word name ∷ (parameter_tokens ++ (result ++ LeftBrace ∷ (body ++ RightBrace ∷ [])))) ++ rest
@@ -200,13 +200,13 @@ module _ (vs more : List (List ℕ)) where
       let x = both (block (length vs) (vs ++ more) d.first d.middle) _ f rest d.goes_on in
       let x_is = block_is d.first d.middle x.first x.middle x.reads in
       let made : FirstFunc = record { name = b.first; has_int = d.first; body = x.first } in
-      let h = holds (is_new (vs ++ more) b.first) made x.middle f rest x.goes_on in
+      let p = some_pair_parts made f x.middle rest x.goes_on in
       let part : List Token = func_tokens b.first d.first x_is.part in
       let spelled : tokens ≡ part ++ x.middle =
           spelled_func b.first (result_tokens d.first) x_is.part tokens a.middle b.middle c.middle d.middle x.middle a_is b_is c_is d_is x_is.spelled in
       let whole = whole_func b.first d.first x_is.part x.first x_is.reads in
-      let found : IsLawfulFunc tokens made x.middle = record { front = record { part = part; spelled = spelled; reads = whole }; ends = x_is.ends; is_fresh = h.true_is } in
-      subst (λ ts. IsLawfulFunc tokens f ts) h.rest_is (subst (λ g. IsLawfulFunc tokens g x.middle) h.value_is found)
+      let found : IsLawfulFunc tokens made x.middle = record { front = record { part = part; spelled = spelled; reads = whole }; ends = x_is.ends } in
+      subst (λ ts. IsLawfulFunc tokens f ts) p.1 (subst (λ g. IsLawfulFunc tokens g x.middle) p.0 found)
 
 -- a repetition of functions, to the end
 pub record AreFunctions (vs : List (List ℕ)) (declared : Declared) (tokens : List Token) (all : Declared) : Type 0 where
@@ -249,11 +249,10 @@ functions_are vs (suc fuel) declared tokens all rest more names lawful e =
             let found = function_is vs more tokens x.first x.middle (subst (λ l. function (length vs) l tokens ≡ Some (x.first, x.middle)) names x.reads) in
             let y = both (symbol Semicolon x.middle) _ a.first a.middle x.goes_on in
             let y_is = symbol_is Semicolon x.middle y.first y.middle y.reads in
-            let p = some_pair_parts (with_function declared x.first) a.first y.middle a.middle y.goes_on in
+            let p = holds (is_new declared.names x.first.name) (with_function declared x.first) y.middle a.first a.middle y.goes_on in
             let others : repeated is_left (one_more_function (length vs)) fuel (with_function declared x.first) y.middle ≡ Some (all, rest) =
-                resumes (repeated is_left (one_more_function (length vs)) fuel) (with_function declared x.first) a.first y.middle a.middle (Some (all, rest)) p.0 p.1 a.goes_on in
-            let fresh : is_new declared.names x.first.name ≡ true = subst (λ l. is_new l x.first.name ≡ true) (sym names) found.is_fresh in
-            let next = one_more_name declared.names x.first.name lawful fresh in
+                resumes (repeated is_left (one_more_function (length vs)) fuel) (with_function declared x.first) a.first y.middle a.middle (Some (all, rest)) p.value_is p.rest_is a.goes_on in
+            let next = one_more_name declared.names x.first.name lawful p.true_is in
             let behind : declared.names ++ x.first.name ∷ [] ≡ vs ++ (more ++ x.first.name ∷ []) = ap (λ l. l ++ x.first.name ∷ []) names ∙ append_assoc vs more (x.first.name ∷ []) in
             more_functions vs declared tokens all x.first x.middle y.middle more found y_is
                 (functions_are vs fuel (with_function declared x.first) y.middle all rest (more ++ x.first.name ∷ []) behind next others)

@@ -11,7 +11,7 @@ use Rattle.std.specs.declared.alloc.Global.{Global}
 use Rattle.std.proofs.lemmas.Map.Text.{is_eq-slice_cmp}
 use Rattle.std.proofs.lemmas.Slice.Eq.{bytes_eq-Decides}
 use Rattle.gno_syntax.specs.Scope.{HasPlaces}
-use Rattle.gno_syntax.specs.Reader.{place}
+use Rattle.gno_syntax.specs.Places.{place}
 use Rattle.gno_syntax.proofs.Places.{place_push, bytes_eq_sym}
 
 abbrev key_cmp : Vec ℕ Global → Vec ℕ Global → Ordering

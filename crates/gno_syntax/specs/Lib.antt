@@ -2,6 +2,7 @@ pub mod Names
 pub mod Lawful
 pub mod Tokens
 pub mod Form
+pub mod Places
 pub mod Reader
 pub mod Scope
 pub mod Cursor

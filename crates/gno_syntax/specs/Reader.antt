@@ -8,7 +8,9 @@ use Rattle.gno_syntax.specs.declared.tree.FirstStmt.{FirstStmt}
 use Rattle.gno_syntax.specs.declared.tree.FirstStmt.TheVariants as stmt
 use Rattle.gno_syntax.specs.declared.tree.FirstExpr.{FirstExpr}
 use Rattle.gno_syntax.specs.declared.tree.FirstExpr.TheVariants as expr
+use Rattle.gno_syntax.specs.declared.declared.Declared.{Declared}
 use Rattle.gno_syntax.specs.Names.{is_among, is_name}
+use Rattle.gno_syntax.specs.Places.{place}
 use Rattle.gno_syntax.specs.Tokens.{tokens_in}
 
 -- what is read at the front of a list of tokens, and the tokens behind it
@@ -90,11 +92,6 @@ variable names tokens =
 unfoldable pub variables : List Token → Found (List (List ℕ))
 variables tokens = repeats (at_keyword (codes "var")) variable [] tokens
 
--- the place of a name in a list
-abbrev pub place : List ℕ → List (List ℕ) → Option ℕ
-place name [] = None
-place name (other ∷ names) = if bytes_eq name other then Some 0 else option_map suc (place name names)
-
 -- the number of a variable: its place among the names, of which the first `count` are variables
 abbrev pub below : ℕ → Option ℕ → Option ℕ
 below count None = None
@@ -171,12 +168,7 @@ function count names tokens =
     and_then (word a) (λ name b.
     and_then (parameters b) (λ _ c.
     and_then (has_result c) (λ has_int d.
-    and_then (block count names has_int d) (λ body rest. where_true (is_new names name) (record { name = name; has_int = has_int; body = body }) rest)))))
-
--- the names that are declared, and the functions
-pub record Declared : Type 0 where
-  pub names : List (List ℕ)
-  pub functions : List FirstFunc
+    and_then (block count names has_int d) (λ body rest. Some (record { name = name; has_int = has_int; body = body }, rest))))))
 
 abbrev pub with_function : Declared → FirstFunc → Declared
 with_function declared f = record { names = declared.names ++ f.name ∷ []; functions = declared.functions ++ f ∷ [] }
@@ -184,7 +176,7 @@ with_function declared f = record { names = declared.names ++ f.name ∷ []; fun
 unfoldable pub one_more_function : ℕ → Declared → List Token → Found Declared
 one_more_function count declared tokens =
     and_then (function count declared.names tokens) (λ f a.
-    and_then (symbol Semicolon a) (λ _ rest. Some (with_function declared f, rest)))
+    and_then (symbol Semicolon a) (λ _ rest. where_true (is_new declared.names f.name) (with_function declared f) rest))
 
 abbrev pub is_left : List Token → Bool
 is_left [] = false

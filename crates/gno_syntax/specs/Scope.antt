@@ -4,7 +4,7 @@ use Rattle.std.specs.BTreeMap.{BTreeMap, get_by}
 use Rattle.std.specs.Cmp.Lexicographic.{slice_cmp}
 use Rattle.std.specs.Ordering.{nat_cmp}
 use Rattle.std.specs.declared.alloc.Global.{Global}
-use Rattle.gno_syntax.specs.Reader.{place}
+use Rattle.gno_syntax.specs.Places.{place}
 
 abbrev pub HasPlaces : BTreeMap (Vec ℕ Global) ℕ → List (List ℕ) → Type 0
 HasPlaces table names = (name : List ℕ) → get_by (λ key. slice_cmp nat_cmp name key.items) table ≡ place name names

@@ -2,6 +2,7 @@
 #![tactic(auto)]
 
 mod cursor;
+mod declared;
 mod first;
 mod names;
 mod scope;

@@ -1,5 +1,6 @@
 // The names that a file declares.
 ghost use Rattle.std.specs.Prelude.{◌≡◌, [], ◌∷◌, ◌++◌, true, false, length, take, IfOk, IsErrOf};
+ghost use Rattle.gno_syntax.specs.Places.{place};
 ghost use Rattle.gno_syntax.specs.Reader as reader;
 
 use crate::FirstFault;
@@ -45,7 +46,7 @@ impl Scope {
 
     /// The number of a name, or None where it is not declared.
     pub fn number(&self, name: &[u8]) -> Option<usize>
-        ensures { result ≡ reader.place name.now self.now }
+        ensures { result ≡ place name.now self.now }
     {
         self.numbers.get(name).copied()
     }
