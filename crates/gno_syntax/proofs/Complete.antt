@@ -1,26 +1,24 @@
 -- What the grammar spells is read.
-use Rattle.std.proofs.Common.{◌≡◌, ℕ, zero, suc, ◌<◌, ◌≤◌, List, [], ◌∷◌, ◌++◌, length, take, map, Bool, true, false, cond, refl, sym, ◌∙◌, ap, Option, Some, None, arith, codes, not, ◌&&◌, subst, ◌⊎◌, inl, inr, append_assoc, append-nil}
+use Rattle.std.proofs.Common.{◌≡◌, ℕ, zero, suc, List, [], ◌∷◌, ◌++◌, length, map, Bool, true, false, refl, sym, ◌∙◌, ap, Some, codes, not, subst, append_assoc, append-nil}
 use Rattle.std.specs.List.{slice_get, flat_map, list_all}
 use Rattle.std.specs.Str.{bytes_eq}
 use Rattle.std.proofs.Math.Seq.{take-append_seam}
-use Rattle.std.proofs.lemmas.Option.{some_pair_parts, slice_get_within}
 use Rattle.std.proofs.lemmas.Slice.Eq.{bytes_eq-Decides}
 use Rattle.gno_syntax.specs.declared.token.Token.{Token}
-use Rattle.gno_syntax.specs.declared.token.Token.TheVariants.{Word, Increment, LeftParen, RightParen, LeftBrace, RightBrace, Semicolon}
+use Rattle.gno_syntax.specs.declared.token.Token.TheVariants.{Word, Increment, LeftBrace, RightBrace, Semicolon}
 use Rattle.gno_syntax.specs.declared.tree.FirstFile.{FirstFile}
 use Rattle.gno_syntax.specs.declared.tree.FirstFunc.{FirstFunc}
 use Rattle.gno_syntax.specs.declared.tree.FirstStmt.{FirstStmt}
 use Rattle.gno_syntax.specs.declared.tree.FirstStmt.TheVariants as stmt
 use Rattle.gno_syntax.specs.declared.tree.FirstExpr.{FirstExpr}
-use Rattle.gno_syntax.specs.declared.tree.FirstExpr.TheVariants as expr
 use Rattle.gno_syntax.specs.Names.{is_name}
-use Rattle.gno_syntax.specs.Lawful.{IsExprIn, IsStmtIn, IsBodyIn, AreFuncsIn, IsLawful, declared_names, are_distinct}
+use Rattle.gno_syntax.specs.Lawful.{IsBodyIn, AreFuncsIn, IsLawful}
 use Rattle.gno_syntax.specs.Form.{variable_tokens, result_tokens, IsExpr, named, IsStmt, incremented, returned, IsBody, no_statement, last_statement, next_statement, IsFunc, AreFuncs, no_function, next_function, Reads}
 use Rattle.gno_syntax.specs.declared.declared.Declared.{Declared}
-use Rattle.gno_syntax.specs.Reader.{Found, and_then, where_true, same_symbol, at_symbol, at_keyword, symbol, word, keyword, package_clause, is_new, variable, variables, parameters, has_result, number, found_number, variable_name, expression, return_statement, increment_statement, statement, end_of_statement, one_more, statements, repeats, repeated, block, ends_well, function, functions, is_left, with_function, one_more_function, file_in, file_of, value_of}
-use Rattle.gno_syntax.proofs.Repeats.{and_then_some, repeats_end, repeats_more}
+use Rattle.gno_syntax.specs.Reader.{and_then, where_true, same_symbol, at_symbol, at_keyword, symbol, word, keyword, package_clause, is_new, variable, variables, parameters, has_result, variable_name, expression, return_statement, increment_statement, statement, end_of_statement, one_more, statements, repeats, block, ends_well, function, functions, is_left, with_function, one_more_function, file_in}
+use Rattle.gno_syntax.proofs.Repeats.{repeats_end, repeats_more}
 use Rattle.gno_syntax.proofs.Places.{same_bytes, both_true}
-use Rattle.gno_syntax.proofs.Distinct.{AreNames, no_names, one_more_name, names_in_front, next_is_new, number_at}
+use Rattle.gno_syntax.proofs.Distinct.{AreNames, names_in_front, next_is_new, number_at}
 use Rattle.gno_syntax.proofs.Pieces.{parameter_tokens}
 use Rattle.gno_syntax.proofs.Shorter.{variable_takes, one_more_takes, one_more_function_takes}
 
@@ -35,12 +33,13 @@ is_name_at (x ∷ xs) (suc n) name all e = is_name_at xs n name (both_true (is_n
 not_return : (name : List ℕ) → is_name name ≡ true → bytes_eq (codes "return") name ≡ false
 unfolding is_name
 not_return name e =
-    elim (bytes_eq (codes "return") name) as (λ b. bytes_eq (codes "return") name ≡ b → b ≡ false)
-        [ true ↦ λ t.
-            let same : codes "return" ≡ name = (bytes_eq-Decides (codes "return") name).0 t in
-            let f : is_name (codes "return") ≡ true = subst (λ w. is_name w ≡ true) (sym same) e in
-            cc
-        | false ↦ λ t. refl ] refl
+    elim (bytes_eq (codes "return") name) as (λ b. bytes_eq (codes "return") name ≡ b → b ≡ false) [
+      | true ↦ λ t.
+          let same : codes "return" ≡ name = (bytes_eq-Decides (codes "return") name).0 t in
+          let f : is_name (codes "return") ≡ true = subst (λ w. is_name w ≡ true) (sym same) e in
+          cc
+      | false ↦ λ t. refl
+    ] refl
 
 keyword_at : (wanted : List ℕ) (rest : List Token) → keyword wanted (Word wanted ∷ rest) ≡ Some (tt, rest)
 unfolding keyword word and_then where_true
@@ -94,14 +93,14 @@ module _ (vs more : List (List ℕ)) (lawful : AreNames vs) where
   statements_at body part added rest no_statement = rw append-nil (stops_at_brace body rest)
   statements_at body part added rest (last_statement front s reads) =
       repeats_more (λ ts. not (at_symbol RightBrace ts)) (one_more (length vs) (vs ++ more)) (one_more_takes (length vs) (vs ++ more)) body (front ++ RightBrace ∷ rest) (body ++ s ∷ []) (RightBrace ∷ rest)
-          (begins front s (RightBrace ∷ rest) reads) (step_at body front s (RightBrace ∷ rest) (RightBrace ∷ rest) reads (ends_at_brace rest))
+      (begins front s (RightBrace ∷ rest) reads) (step_at body front s (RightBrace ∷ rest) (RightBrace ∷ rest) reads (ends_at_brace rest))
       ∙ stops_at_brace (body ++ s ∷ []) rest
   statements_at body part added rest (next_statement front behind s others reads more_reads) =
       let e : (front ++ Semicolon ∷ behind) ++ RightBrace ∷ rest ≡ front ++ Semicolon ∷ (behind ++ RightBrace ∷ rest) = append_assoc front (Semicolon ∷ behind) (RightBrace ∷ rest) in
       let one = repeats_more (λ ts. not (at_symbol RightBrace ts)) (one_more (length vs) (vs ++ more)) (one_more_takes (length vs) (vs ++ more)) body
-          (front ++ Semicolon ∷ (behind ++ RightBrace ∷ rest)) (body ++ s ∷ []) (behind ++ RightBrace ∷ rest)
-          (begins front s (Semicolon ∷ (behind ++ RightBrace ∷ rest)) reads)
-          (step_at body front s (Semicolon ∷ (behind ++ RightBrace ∷ rest)) (behind ++ RightBrace ∷ rest) reads (ends_at_semicolon (behind ++ RightBrace ∷ rest))) in
+      (front ++ Semicolon ∷ (behind ++ RightBrace ∷ rest)) (body ++ s ∷ []) (behind ++ RightBrace ∷ rest)
+      (begins front s (Semicolon ∷ (behind ++ RightBrace ∷ rest)) reads)
+      (step_at body front s (Semicolon ∷ (behind ++ RightBrace ∷ rest)) (behind ++ RightBrace ∷ rest) reads (ends_at_semicolon (behind ++ RightBrace ∷ rest))) in
       let then_others = statements_at (body ++ s ∷ []) behind others rest more_reads in
       ap (repeats (λ ts. not (at_symbol RightBrace ts)) (one_more (length vs) (vs ++ more)) body) e ∙ one ∙ then_others ∙ ap (λ l. Some (l, RightBrace ∷ rest)) (append_assoc body (s ∷ []) others)
 
@@ -123,10 +122,12 @@ module _ (vs more : List (List ℕ)) (lawful : AreNames vs) where
       → function (length vs) (vs ++ more) (Word (codes "func") ∷ Word f.name ∷ (parameter_tokens ++ (result_tokens f.has_int ++ LeftBrace ∷ (body ++ RightBrace ∷ rest)))) ≡ Some (f, rest)
   unfolding function word and_then
   function_spelled_at f body rest reads ends =
-      rw (keyword_at (codes "func") (Word f.name ∷ (parameter_tokens ++ (result_tokens f.has_int ++ LeftBrace ∷ (body ++ RightBrace ∷ rest)))),
-          parameters_at (result_tokens f.has_int ++ LeftBrace ∷ (body ++ RightBrace ∷ rest)),
-          has_result_at f.has_int (body ++ RightBrace ∷ rest),
-          block_at f.has_int body f.body rest reads ends) refl
+      rw (
+        keyword_at (codes "func") (Word f.name ∷ (parameter_tokens ++ (result_tokens f.has_int ++ LeftBrace ∷ (body ++ RightBrace ∷ rest)))),
+        parameters_at (result_tokens f.has_int ++ LeftBrace ∷ (body ++ RightBrace ∷ rest)),
+        has_result_at f.has_int (body ++ RightBrace ∷ rest),
+        block_at f.has_int body f.body rest reads ends,
+      ) refl
 
   regroup : (name : List ℕ) (result body rest : List Token)
       → (Word (codes "func") ∷ Word name ∷ (parameter_tokens ++ (result ++ LeftBrace ∷ (body ++ RightBrace ∷ [])))) ++ rest
@@ -158,7 +159,7 @@ function_step_at : (vs more : List (List ℕ)) (declared : Declared) (part : Lis
 unfolding one_more_function and_then symbol same_symbol where_true
 function_step_at vs more declared part f rest lawful names reads ends fresh =
     let here : function (length vs) declared.names (part ++ Semicolon ∷ rest) ≡ Some (f, Semicolon ∷ rest) =
-        ap (λ l. function (length vs) l (part ++ Semicolon ∷ rest)) names ∙ function_at vs more lawful part f (Semicolon ∷ rest) reads ends in
+    ap (λ l. function (length vs) l (part ++ Semicolon ∷ rest)) names ∙ function_at vs more lawful part f (Semicolon ∷ rest) reads ends in
     rw (here, fresh) refl
 
 declared_same : (names others : List (List ℕ)) (fs gs : List FirstFunc) → names ≡ others → fs ≡ gs → ◌≡◌ {A = Declared} (record { names = names; functions = fs }) (record { names = others; functions = gs })
@@ -175,12 +176,12 @@ functions_at vs more declared part fs (next_function front rest f others reads m
     let fresh = next_is_new declared.names (map (λ g. g.name) others) f.name lawful in
     let step = function_step_at vs more declared front f rest in_front names reads (ends_of (length vs) f.has_int f.body bodies.0) fresh in
     let one = repeats_more is_left (one_more_function (length vs)) (one_more_function_takes (length vs)) declared (front ++ Semicolon ∷ rest) (with_function declared f) rest
-        (left_of_func vs front f (Semicolon ∷ rest) reads) step in
+    (left_of_func vs front f (Semicolon ∷ rest) reads) step in
     let regrouped : declared.names ++ f.name ∷ map (λ g. g.name) others ≡ (declared.names ++ f.name ∷ []) ++ map (λ g. g.name) others = sym (append_assoc declared.names (f.name ∷ []) (map (λ g. g.name) others)) in
     let behind : declared.names ++ f.name ∷ [] ≡ vs ++ (more ++ f.name ∷ []) = ap (λ l. l ++ f.name ∷ []) names ∙ append_assoc vs more (f.name ∷ []) in
     let all = functions_at vs (more ++ f.name ∷ []) (with_function declared f) rest others more_reads behind (subst AreNames regrouped lawful) bodies.1 in
     one ∙ all ∙ ap (λ d. Some (d, [])) (declared_same ((declared.names ++ f.name ∷ []) ++ map (λ g. g.name) others) (declared.names ++ f.name ∷ map (λ g. g.name) others)
-        ((declared.functions ++ f ∷ []) ++ others) (declared.functions ++ f ∷ others) (sym regrouped) (append_assoc declared.functions (f ∷ []) others))
+    ((declared.functions ++ f ∷ []) ++ others) (declared.functions ++ f ∷ others) (sym regrouped) (append_assoc declared.functions (f ∷ []) others))
 
 variable_at : (names : List (List ℕ)) (name : List ℕ) (rest : List Token) → is_new names name ≡ true → variable names (variable_tokens name ++ rest) ≡ Some (names ++ name ∷ [], rest)
 unfolding variable keyword word symbol same_symbol and_then where_true
@@ -197,7 +198,7 @@ variables_at names [] rest lawful e =
 variables_at names (x ∷ xs) rest lawful e =
     let regrouped : names ++ x ∷ xs ≡ (names ++ x ∷ []) ++ xs = sym (append_assoc names (x ∷ []) xs) in
     let one = repeats_more (at_keyword (codes "var")) variable variable_takes names (variable_tokens x ++ (flat_map variable_tokens xs ++ rest)) (names ++ x ∷ []) (flat_map variable_tokens xs ++ rest)
-        (at_variable x (flat_map variable_tokens xs ++ rest)) (variable_at names x (flat_map variable_tokens xs ++ rest) (next_is_new names xs x lawful)) in
+    (at_variable x (flat_map variable_tokens xs ++ rest)) (variable_at names x (flat_map variable_tokens xs ++ rest) (next_is_new names xs x lawful)) in
     let others = variables_at (names ++ x ∷ []) xs rest (subst AreNames regrouped lawful) e in
     one ∙ others ∙ ap (λ l. Some (l, rest)) (sym regrouped)
 

@@ -1,7 +1,7 @@
 -- Names that may be declared together, and those that may be declared beside them.
-use Rattle.std.proofs.Common.{◌≡◌, ℕ, zero, suc, ◌<◌, ◌≤◌, List, [], ◌∷◌, ◌++◌, length, Bool, true, false, cond, refl, sym, ◌∙◌, ap, Option, Some, None, arith, ◌&&◌, ◌||◌, not, append_assoc, subst}
+use Rattle.std.proofs.Common.{◌≡◌, ℕ, zero, suc, ◌<◌, List, [], ◌∷◌, ◌++◌, length, Bool, true, false, cond, refl, sym, ◌∙◌, Option, Some, None, arith, ◌&&◌, ◌||◌, not, append_assoc, subst}
 use Rattle.std.specs.Str.{bytes_eq}
-use Rattle.std.specs.List.{list_all, list_any, slice_get}
+use Rattle.std.specs.List.{list_all, slice_get}
 use Rattle.std.specs.Bool.{nat_lt}
 use Rattle.std.proofs.lemmas.Bool.Decides.{nat_tests}
 use Rattle.std.proofs.lemmas.List.Folds.{list_any-append, list_all-append}
@@ -22,7 +22,7 @@ pub distinct_push : (names : List (List ℕ)) (name : List ℕ) → are_distinct
 distinct_push [] name = refl
 distinct_push (x ∷ xs) name =
     rw (list_any-append (bytes_eq x) xs (name ∷ []), distinct_push xs name, bytes_eq_sym name x)
-        (regrouped (is_among xs x) (bytes_eq x name) (are_distinct xs) (is_among xs name))
+    (regrouped (is_among xs x) (bytes_eq x name) (are_distinct xs) (is_among xs name))
 
 -- names, all of them, and no two the same
 pub record AreNames (names : List (List ℕ)) : Type 0 where
@@ -87,7 +87,7 @@ below_is : (count : ℕ) (o : Option ℕ) (n : ℕ) → below count o ≡ Some n
 below_is count None n e = let f : (None ≡ Some n) × (n < count) = cc in f
 below_is count (Some m) n e =
     elim (nat_lt m count) as (λ b. nat_lt m count ≡ b → cond b (Some m) None ≡ Some n → (Some m ≡ Some n) × (n < count))
-        [ true ↦ λ t h. let s : m ≡ n = cc in (h, subst (λ k. k < count) s (less m count t)) | false ↦ λ t h. let f : ⊥ = cc in absurd f ] refl e
+    [ true ↦ λ t h. let s : m ≡ n = cc in (h, subst (λ k. k < count) s (less m count t)) | false ↦ λ t h. let f : ⊥ = cc in absurd f ] refl e
 
 slice_get_front : (names more : List (List ℕ)) (n : ℕ) → n < length names → slice_get (names ++ more) n ≡ slice_get names n
 slice_get_front [] more n h = absurd (omega arith)

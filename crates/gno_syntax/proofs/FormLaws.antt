@@ -1,17 +1,16 @@
 -- The texts of the first form: each has one file, which is lawful, and no name in it has a zero byte.
-use Rattle.std.proofs.Common.{◌≡◌, ℕ, ◌<◌, ◌≤◌, List, [], ◌∷◌, length, Bool, true, false, cond, refl, sym, ◌∙◌, ap, Option, Some, None, arith, not, ◌&&◌, ◌||◌, subst}
+use Rattle.std.proofs.Common.{◌≡◌, ℕ, ◌≤◌, List, [], ◌∷◌, length, true, false, cond, refl, Some, None, arith, not, ◌&&◌, ◌||◌}
 use Rattle.std.specs.List.{list_all}
 use Rattle.std.specs.Bool.{nat_le, nat_lt}
 use Rattle.std.proofs.lemmas.Bool.Decides.{nat_tests}
-use Rattle.gno_syntax.specs.declared.token.Token.{Token}
 use Rattle.gno_syntax.specs.declared.tree.FirstFile.{FirstFile}
-use Rattle.gno_syntax.specs.Names.{is_name, is_letter, is_digit, is_upper, is_reserved, begins_with_letter}
+use Rattle.gno_syntax.specs.Names.{is_name, is_letter, is_digit, is_reserved, begins_with_letter}
 use Rattle.gno_syntax.specs.Lawful.{IsLawful}
 use Rattle.gno_syntax.specs.Tokens.{tokens_in}
 use Rattle.gno_syntax.specs.Form.{IsFirstForm}
-use Rattle.gno_syntax.specs.Reader.{first_of, file_in, file_of_tokens}
+use Rattle.gno_syntax.specs.Reader.{first_of, file_of_tokens}
 use Rattle.gno_syntax.proofs.Places.{both_true}
-use Rattle.gno_syntax.proofs.Sound.{IsFile, file_is}
+use Rattle.gno_syntax.proofs.Sound.{file_is}
 use Rattle.gno_syntax.proofs.Complete.{file_at}
 
 within : (n limit : ℕ) → nat_le n limit ≡ true → n ≤ limit
@@ -23,13 +22,15 @@ tested n limit e = grind (arith, nat_tests)
 pub first_is : (text : List ℕ) (file : FirstFile) → first_of text ≡ Some file → IsFirstForm text file
 unfolding first_of
 first_is text file e =
-    elim (nat_le (length text) 1048576) as (λ b. nat_le (length text) 1048576 ≡ b → cond b (file_of_tokens (tokens_in text)) None ≡ Some file → IsFirstForm text file)
-        [ true ↦ λ t h. elim (tokens_in text) as (λ o. tokens_in text ≡ o → file_of_tokens o ≡ Some file → IsFirstForm text file)
-            [ None ↦ λ s q. let f : ⊥ = cc in absurd f
-            | Some tokens ↦ λ s q.
-                let found = file_is tokens file q in
-                record { short = within (length text) 1048576 t; tokens = tokens; scanned = s; reads = found.reads; package_name = found.package_name; lawful = found.lawful } ] refl h
-        | false ↦ λ t h. let f : ⊥ = cc in absurd f ] refl e
+    elim (nat_le (length text) 1048576) as (λ b. nat_le (length text) 1048576 ≡ b → cond b (file_of_tokens (tokens_in text)) None ≡ Some file → IsFirstForm text file) [
+      | true ↦ λ t h. elim (tokens_in text) as (λ o. tokens_in text ≡ o → file_of_tokens o ≡ Some file → IsFirstForm text file) [
+        | None ↦ λ s q. let f : ⊥ = cc in absurd f
+        | Some tokens ↦ λ s q.
+            let found = file_is tokens file q in
+            record { short = within (length text) 1048576 t; tokens = tokens; scanned = s; reads = found.reads; package_name = found.package_name; lawful = found.lawful }
+      ] refl h
+      | false ↦ λ t h. let f : ⊥ = cc in absurd f
+    ] refl e
 
 pub first_at : (text : List ℕ) (file : FirstFile) → IsFirstForm text file → first_of text ≡ Some file
 unfolding first_of

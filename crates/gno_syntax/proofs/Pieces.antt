@@ -1,20 +1,20 @@
 -- What the reader's straight productions read.
-use Rattle.std.proofs.Common.{◌≡◌, ℕ, zero, suc, ◌<◌, ◌≤◌, List, [], ◌∷◌, ◌++◌, length, Bool, true, false, cond, refl, sym, ◌∙◌, ap, Option, Some, None, arith, codes, ◌&&◌, not, subst}
+use Rattle.std.proofs.Common.{◌≡◌, ℕ, List, [], ◌∷◌, ◌++◌, length, Bool, true, false, cond, refl, sym, ap, Option, Some, None, codes, subst}
 use Rattle.std.specs.List.{slice_get}
 use Rattle.std.specs.Str.{bytes_eq}
 use Rattle.std.proofs.lemmas.Slice.Eq.{bytes_eq-Decides}
 use Rattle.std.proofs.lemmas.Option.{some_pair_parts}
 use Rattle.gno_syntax.specs.declared.token.Token.{Token}
 use Rattle.gno_syntax.specs.declared.token.Token.TheVariants.{Word, Increment, LeftParen, RightParen, LeftBrace, RightBrace, Semicolon}
-use Rattle.gno_syntax.specs.Names.{is_among, is_name}
-use Rattle.gno_syntax.specs.Reader.{Found, and_then, where_true, same_symbol, at_symbol, at_keyword, symbol, word, keyword, package_clause, is_new, variable, parameters, has_result, number, found_number, variable_name, expression, return_statement, increment_statement, statement, end_of_statement}
+use Rattle.gno_syntax.specs.Names.{is_name}
+use Rattle.gno_syntax.specs.Reader.{and_then, where_true, same_symbol, at_keyword, symbol, word, keyword, package_clause, is_new, variable, parameters, has_result, number, found_number, variable_name, expression, return_statement, increment_statement, statement}
 use Rattle.gno_syntax.specs.declared.tree.FirstStmt.{FirstStmt}
 use Rattle.gno_syntax.specs.declared.tree.FirstStmt.TheVariants as stmt
 use Rattle.gno_syntax.specs.declared.tree.FirstExpr.{FirstExpr}
 use Rattle.gno_syntax.specs.declared.tree.FirstExpr.TheVariants as expr
 use Rattle.gno_syntax.specs.Form.{variable_tokens, result_tokens, IsExpr, named, IsStmt, incremented, returned}
 use Rattle.gno_syntax.proofs.Distinct.{number_is}
-use Rattle.gno_syntax.proofs.Repeats.{both, Both}
+use Rattle.gno_syntax.proofs.Repeats.{both}
 
 pub record Holds {A : Type 0} (test : Bool) (value : A) (tokens : List Token) (found : A) (rest : List Token) : Type 0 where
   pub true_is : test ≡ true
@@ -130,19 +130,20 @@ parameters_is tokens u rest e =
 pub has_result_is : (tokens : List Token) (has_int : Bool) (rest : List Token) → has_result tokens ≡ Some (has_int, rest) → tokens ≡ result_tokens has_int ++ rest
 unfolding has_result
 has_result_is tokens has_int rest e =
-    elim (at_keyword (codes "int") tokens) as (λ b. cond b (and_then (keyword (codes "int") tokens) (λ _ more. Some (true, more))) (Some (false, tokens)) ≡ Some (has_int, rest) → tokens ≡ result_tokens has_int ++ rest)
-        [ true ↦ λ h.
-            let a = both (keyword (codes "int") tokens) _ has_int rest h in
-            let a_is = keyword_is (codes "int") tokens a.first a.middle a.reads in
-            let p = some_pair_parts true has_int a.middle rest a.goes_on in
-            let v = p.0 in
-            let r = p.1 in
-            elim has_int as (λ b. true ≡ b → tokens ≡ result_tokens b ++ rest) [ true ↦ λ _. cc | false ↦ λ w. cc ] v
-        | false ↦ λ h.
-            let p = some_pair_parts false has_int tokens rest h in
-            let v = p.0 in
-            let r = p.1 in
-            elim has_int as (λ b. false ≡ b → tokens ≡ result_tokens b ++ rest) [ true ↦ λ w. cc | false ↦ λ _. r ] v ] e
+    elim (at_keyword (codes "int") tokens) as (λ b. cond b (and_then (keyword (codes "int") tokens) (λ _ more. Some (true, more))) (Some (false, tokens)) ≡ Some (has_int, rest) → tokens ≡ result_tokens has_int ++ rest) [
+      | true ↦ λ h.
+          let a = both (keyword (codes "int") tokens) _ has_int rest h in
+          let a_is = keyword_is (codes "int") tokens a.first a.middle a.reads in
+          let p = some_pair_parts true has_int a.middle rest a.goes_on in
+          let v = p.0 in
+          let r = p.1 in
+          elim has_int as (λ b. true ≡ b → tokens ≡ result_tokens b ++ rest) [ true ↦ λ _. cc | false ↦ λ w. cc ] v
+      | false ↦ λ h.
+          let p = some_pair_parts false has_int tokens rest h in
+          let v = p.0 in
+          let r = p.1 in
+          elim has_int as (λ b. false ≡ b → tokens ≡ result_tokens b ++ rest) [ true ↦ λ w. cc | false ↦ λ _. r ] v
+    ] e
 
 found_number_is : (o : Option ℕ) (tokens : List Token) (n : ℕ) (rest : List Token) → found_number o tokens ≡ Some (n, rest) → (o ≡ Some n) × (tokens ≡ rest)
 found_number_is None tokens n rest e = let f : (None ≡ Some n) × (tokens ≡ rest) = (cc, cc) in f
@@ -205,5 +206,5 @@ module _ (variables more : List (List ℕ)) where
   unfolding statement
   statement_is tokens x rest e =
       elim (at_keyword (codes "return") tokens)
-          as (λ b. cond b (return_statement (length variables) (variables ++ more) tokens) (increment_statement (length variables) (variables ++ more) tokens) ≡ Some (x, rest) → Front (IsStmt variables) tokens x rest)
-          [ true ↦ λ h. return_is tokens x rest h | false ↦ λ h. increment_is tokens x rest h ] e
+      as (λ b. cond b (return_statement (length variables) (variables ++ more) tokens) (increment_statement (length variables) (variables ++ more) tokens) ≡ Some (x, rest) → Front (IsStmt variables) tokens x rest)
+      [ true ↦ λ h. return_is tokens x rest h | false ↦ λ h. increment_is tokens x rest h ] e

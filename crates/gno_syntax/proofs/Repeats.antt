@@ -1,10 +1,10 @@
 -- A repetition whose steps take tokens is its first step and then the rest of it.
-use Rattle.std.proofs.Common.{◌≡◌, ℕ, zero, suc, ◌<◌, ◌≤◌, List, length, Bool, true, false, cond, refl, sym, ◌∙◌, ap, Option, Some, None, arith}
+use Rattle.std.proofs.Common.{◌≡◌, ℕ, zero, suc, ◌<◌, List, length, Bool, true, false, cond, refl, ◌∙◌, ap, Some, None, arith}
 use Rattle.gno_syntax.specs.declared.token.Token.{Token}
 use Rattle.gno_syntax.specs.Reader.{Found, and_then, repeated, repeats}
 use Rattle.gno_syntax.specs.Cursor.{Fails}
-use Rattle.gno_syntax.specs.declared.cursor.FirstFault.{FirstFault}
-use Rattle.gno_syntax.specs.declared.cursor.FirstFault.TheVariants.{NotFirst, NoMemory}
+use Rattle.gno_syntax.specs.declared.fault.FirstFault.{FirstFault}
+use Rattle.gno_syntax.specs.declared.fault.FirstFault.TheVariants.{NotFirst, NoMemory}
 
 -- what is read in two steps, taken apart
 pub record Both {A B : Type 0} (found : Found A) (next : A → List Token → Found B) (value : B) (rest : List Token) : Type 0 where
@@ -42,18 +42,20 @@ module _ {S : Type 0} (goes_on : List Token → Bool) (step : S → List Token �
   enough zero more state tokens h k = absurd (omega arith)
   enough (suc fuel) zero state tokens h k = absurd (omega arith)
   enough (suc fuel) (suc more) state tokens h k =
-      elim (goes_on tokens) as (λ b. cond b (and_then (step state tokens) (repeated goes_on step fuel)) (Some (state, tokens)) ≡ cond b (and_then (step state tokens) (repeated goes_on step more)) (Some (state, tokens)))
-          [ true ↦ same_next (step state tokens) (repeated goes_on step fuel) (repeated goes_on step more)
-              (λ next rest e. let s = shortens state tokens next rest e in enough fuel more next rest (omega arith) (omega arith))
-          | false ↦ refl ]
+      elim (goes_on tokens) as (λ b. cond b (and_then (step state tokens) (repeated goes_on step fuel)) (Some (state, tokens)) ≡ cond b (and_then (step state tokens) (repeated goes_on step more)) (Some (state, tokens))) [
+        | true ↦ same_next (step state tokens) (repeated goes_on step fuel) (repeated goes_on step more)
+            (λ next rest e. let s = shortens state tokens next rest e in enough fuel more next rest (omega arith) (omega arith))
+        | false ↦ refl
+      ]
 
   pub repeats_step : (state : S) (tokens : List Token) → repeats goes_on step state tokens ≡ cond (goes_on tokens) (and_then (step state tokens) (repeats goes_on step)) (Some (state, tokens))
   unfolding repeated repeats
   repeats_step state tokens =
-      elim (goes_on tokens) as (λ b. cond b (and_then (step state tokens) (repeated goes_on step (length tokens))) (Some (state, tokens)) ≡ cond b (and_then (step state tokens) (repeats goes_on step)) (Some (state, tokens)))
-          [ true ↦ same_next (step state tokens) (repeated goes_on step (length tokens)) (repeats goes_on step)
-              (λ next rest e. let s = shortens state tokens next rest e in enough (length tokens) (suc (length rest)) next rest s (omega arith))
-          | false ↦ refl ]
+      elim (goes_on tokens) as (λ b. cond b (and_then (step state tokens) (repeated goes_on step (length tokens))) (Some (state, tokens)) ≡ cond b (and_then (step state tokens) (repeats goes_on step)) (Some (state, tokens))) [
+        | true ↦ same_next (step state tokens) (repeated goes_on step (length tokens)) (repeats goes_on step)
+            (λ next rest e. let s = shortens state tokens next rest e in enough (length tokens) (suc (length rest)) next rest s (omega arith))
+        | false ↦ refl
+      ]
 
   -- where it ends
   pub repeats_end : (state : S) (tokens : List Token) → goes_on tokens ≡ false → repeats goes_on step state tokens ≡ Some (state, tokens)

@@ -1,18 +1,15 @@
 -- Each step of the reader's repetitions takes a token at least.
-use Rattle.std.proofs.Common.{◌≡◌, ℕ, zero, suc, ◌<◌, ◌≤◌, List, [], ◌∷◌, ◌++◌, length, Bool, true, false, cond, refl, sym, ◌∙◌, ap, Option, Some, None, arith, codes, not, subst, ◌⊎◌, inl, inr}
+use Rattle.std.proofs.Common.{◌≡◌, ℕ, zero, suc, ◌<◌, ◌≤◌, List, [], ◌∷◌, ◌++◌, length, Bool, true, false, cond, refl, ap, Option, Some, None, arith, codes, not, subst, ◌⊎◌, inl, inr}
 use Rattle.std.proofs.lemmas.Option.{some_pair_parts}
 use Rattle.gno_syntax.specs.declared.token.Token.{Token}
-use Rattle.gno_syntax.specs.declared.token.Token.TheVariants.{Word, Increment, LeftParen, RightParen, LeftBrace, RightBrace, Semicolon}
-use Rattle.gno_syntax.specs.declared.tree.FirstStmt.{FirstStmt}
+use Rattle.gno_syntax.specs.declared.token.Token.TheVariants.{Word, Increment, LeftBrace, RightBrace, Semicolon}
 use Rattle.gno_syntax.specs.declared.tree.FirstStmt.TheVariants as stmt
 use Rattle.gno_syntax.specs.declared.tree.FirstFunc.{FirstFunc}
-use Rattle.gno_syntax.specs.declared.tree.FirstExpr.{FirstExpr}
 use Rattle.gno_syntax.specs.declared.tree.FirstExpr.TheVariants as expr
-use Rattle.gno_syntax.specs.Form.{variable_tokens, result_tokens}
-use Rattle.gno_syntax.specs.declared.declared.Declared.{Declared}
-use Rattle.gno_syntax.specs.Reader.{Found, and_then, where_true, at_symbol, at_keyword, symbol, word, keyword, is_new, variable, parameters, has_result, number, found_number, variable_name, expression, return_statement, increment_statement, statement, end_of_statement, one_more, statements, repeats, repeated, block, ends_well, function, with_function, one_more_function}
-use Rattle.gno_syntax.proofs.Repeats.{both, Both, Shortens}
-use Rattle.gno_syntax.proofs.Pieces.{holds, Holds, symbol_is, word_is, keyword_is, IsVariable, variable_is, parameter_tokens, parameters_is, has_result_is}
+use Rattle.gno_syntax.specs.Form.{result_tokens}
+use Rattle.gno_syntax.specs.Reader.{Found, and_then, at_symbol, at_keyword, symbol, word, keyword, is_new, variable, parameters, has_result, number, found_number, variable_name, expression, return_statement, increment_statement, statement, end_of_statement, one_more, statements, repeats, repeated, block, ends_well, function, with_function, one_more_function}
+use Rattle.gno_syntax.proofs.Repeats.{both, Shortens}
+use Rattle.gno_syntax.proofs.Pieces.{holds, symbol_is, word_is, keyword_is, variable_is, parameter_tokens, parameters_is, has_result_is}
 
 -- a production leaves less, or no more, than it is given
 abbrev pub Takes : {A : Type 0} → (List Token → Found A) → Type 0
@@ -42,7 +39,7 @@ pub end_of_statement_is : (tokens : List Token) (u : Unit {0}) (rest : List Toke
 unfolding end_of_statement
 end_of_statement_is tokens u rest e =
     elim (at_symbol RightBrace tokens) as (λ b. cond b (Some (tt, tokens)) (symbol Semicolon tokens) ≡ Some (u, rest) → ((b ≡ true) × (tokens ≡ rest)) ⊎ (tokens ≡ Semicolon ∷ rest))
-        [ true ↦ λ h. inl (refl, (some_pair_parts tt u tokens rest h).1) | false ↦ λ h. inr (symbol_is Semicolon tokens u rest h) ] e
+    [ true ↦ λ h. inl (refl, (some_pair_parts tt u tokens rest h).1) | false ↦ λ h. inr (symbol_is Semicolon tokens u rest h) ] e
 
 end_of_statement_keeps : Keeps end_of_statement
 end_of_statement_keeps tokens u rest e =
@@ -95,8 +92,8 @@ module _ (count : ℕ) (names : List (List ℕ)) where
   unfolding statement
   statement_takes tokens x rest e =
       elim (at_keyword (codes "return") tokens)
-          as (λ b. cond b (return_statement count names tokens) (increment_statement count names tokens) ≡ Some (x, rest) → length rest < length tokens)
-          [ true ↦ λ h. return_takes tokens x rest h | false ↦ λ h. increment_takes tokens x rest h ] e
+      as (λ b. cond b (return_statement count names tokens) (increment_statement count names tokens) ≡ Some (x, rest) → length rest < length tokens)
+      [ true ↦ λ h. return_takes tokens x rest h | false ↦ λ h. increment_takes tokens x rest h ] e
 
   pub one_more_takes : Shortens (one_more count names)
   unfolding one_more
@@ -114,16 +111,17 @@ module _ {S : Type 0} (goes_on : List Token → Bool) (step : S → List Token �
   unfolding repeated
   repeated_keeps zero state tokens all rest e = cc
   repeated_keeps (suc fuel) state tokens all rest e =
-      elim (goes_on tokens) as (λ b. cond b (and_then (step state tokens) (repeated goes_on step fuel)) (Some (state, tokens)) ≡ Some (all, rest) → length rest ≤ length tokens)
-          [ true ↦ λ h.
-              let a = both (step state tokens) (repeated goes_on step fuel) all rest h in
-              let taken = shortens state tokens a.first a.middle a.reads in
-              let more = repeated_keeps fuel a.first a.middle all rest a.goes_on in
-              omega arith
-          | false ↦ λ h.
-              let p = (some_pair_parts state all tokens rest h).1 in
-              let q : length tokens ≡ length rest = ap length p in
-              omega arith ] e
+      elim (goes_on tokens) as (λ b. cond b (and_then (step state tokens) (repeated goes_on step fuel)) (Some (state, tokens)) ≡ Some (all, rest) → length rest ≤ length tokens) [
+        | true ↦ λ h.
+            let a = both (step state tokens) (repeated goes_on step fuel) all rest h in
+            let taken = shortens state tokens a.first a.middle a.reads in
+            let more = repeated_keeps fuel a.first a.middle all rest a.goes_on in
+            omega arith
+        | false ↦ λ h.
+            let p = (some_pair_parts state all tokens rest h).1 in
+            let q : length tokens ≡ length rest = ap length p in
+            omega arith
+      ] e
 
   pub repeats_keeps : (state : S) → Keeps (repeats goes_on step state)
   unfolding repeats
@@ -162,6 +160,7 @@ module _ (count : ℕ) where
     where
       parameters_keep : (tokens rest : List Token) → tokens ≡ parameter_tokens ++ rest → length rest ≤ length tokens
       parameters_keep tokens rest e = rw e (omega arith)
+
       result_keeps : (tokens : List Token) (has_int : Bool) (rest : List Token) → tokens ≡ result_tokens has_int ++ rest → length rest ≤ length tokens
       result_keeps tokens true rest e = rw e (omega arith)
       result_keeps tokens false rest e = rw e (omega arith)

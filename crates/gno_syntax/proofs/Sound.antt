@@ -1,23 +1,22 @@
 -- What the reader reads is spelled by the grammar.
-use Rattle.std.proofs.Common.{◌≡◌, ℕ, zero, suc, ◌<◌, ◌≤◌, List, [], ◌∷◌, ◌++◌, length, take, map, Bool, true, false, cond, refl, sym, ◌∙◌, ap, Option, Some, None, arith, codes, not, subst, ◌⊎◌, inl, inr, append_assoc, append-nil}
-use Rattle.std.specs.List.{slice_get, flat_map, list_all}
+use Rattle.std.proofs.Common.{◌≡◌, ℕ, zero, suc, List, [], ◌∷◌, ◌++◌, length, take, map, Bool, true, false, cond, refl, sym, ◌∙◌, ap, Option, Some, None, codes, not, subst, inl, inr, append_assoc, append-nil}
+use Rattle.std.specs.List.{flat_map, list_all}
 use Rattle.std.proofs.lemmas.Option.{some_pair_parts, slice_get_within}
 use Rattle.gno_syntax.specs.declared.token.Token.{Token}
-use Rattle.gno_syntax.specs.declared.token.Token.TheVariants.{Word, Increment, LeftParen, RightParen, LeftBrace, RightBrace, Semicolon}
+use Rattle.gno_syntax.specs.declared.token.Token.TheVariants.{Word, LeftBrace, RightBrace, Semicolon}
 use Rattle.gno_syntax.specs.declared.tree.FirstFile.{FirstFile}
 use Rattle.gno_syntax.specs.declared.tree.FirstFunc.{FirstFunc}
 use Rattle.gno_syntax.specs.declared.tree.FirstStmt.{FirstStmt}
 use Rattle.gno_syntax.specs.declared.tree.FirstStmt.TheVariants as stmt
 use Rattle.gno_syntax.specs.declared.tree.FirstExpr.{FirstExpr}
-use Rattle.gno_syntax.specs.declared.tree.FirstExpr.TheVariants as expr
 use Rattle.gno_syntax.specs.Names.{is_name}
-use Rattle.gno_syntax.specs.Lawful.{IsExprIn, IsStmtIn, IsBodyIn, AreFuncsIn, IsLawful, declared_names, are_distinct}
+use Rattle.gno_syntax.specs.Lawful.{IsExprIn, IsStmtIn, IsBodyIn, AreFuncsIn, IsLawful, are_distinct}
 use Rattle.gno_syntax.specs.Form.{variable_tokens, result_tokens, IsExpr, named, IsStmt, incremented, returned, IsBody, no_statement, last_statement, next_statement, IsFunc, AreFuncs, no_function, next_function, Reads}
 use Rattle.gno_syntax.specs.declared.declared.Declared.{Declared}
-use Rattle.gno_syntax.specs.Reader.{Found, and_then, where_true, at_symbol, at_keyword, symbol, word, keyword, package_clause, is_new, variable, variables, parameters, has_result, statement, end_of_statement, one_more, statements, repeats, repeated, block, ends_well, function, functions, is_left, with_function, one_more_function, file_in, file_of, value_of}
-use Rattle.gno_syntax.proofs.Repeats.{both, Both, Shortens}
+use Rattle.gno_syntax.specs.Reader.{Found, and_then, at_symbol, at_keyword, symbol, word, keyword, package_clause, is_new, variable, variables, parameters, has_result, statement, end_of_statement, one_more, statements, repeats, repeated, block, ends_well, function, functions, is_left, with_function, one_more_function, file_in, file_of, value_of}
+use Rattle.gno_syntax.proofs.Repeats.{both}
 use Rattle.gno_syntax.proofs.Distinct.{AreNames, no_names, one_more_name}
-use Rattle.gno_syntax.proofs.Pieces.{holds, Holds, symbol_is, word_is, keyword_is, IsVariable, variable_is, parameter_tokens, parameters_is, has_result_is, Front, statement_is, package_clause_is}
+use Rattle.gno_syntax.proofs.Pieces.{holds, symbol_is, word_is, keyword_is, IsVariable, variable_is, parameter_tokens, parameters_is, has_result_is, Front, statement_is, package_clause_is}
 use Rattle.gno_syntax.proofs.Shorter.{end_of_statement_is}
 use Rattle.std.proofs.Math.Seq.{take-append_seam}
 
@@ -70,15 +69,16 @@ variables_are : (fuel : ℕ) (names : List (List ℕ)) (tokens : List Token) (al
 unfolding repeated
 variables_are zero names tokens all rest lawful e = let f : ⊥ = cc in absurd f
 variables_are (suc fuel) names tokens all rest lawful e =
-    elim (at_keyword (codes "var") tokens) as (λ b. cond b (and_then (variable names tokens) (repeated (at_keyword (codes "var")) variable fuel)) (Some (names, tokens)) ≡ Some (all, rest) → AreVariables names tokens all rest)
-        [ true ↦ λ h.
-            let a = both (variable names tokens) (repeated (at_keyword (codes "var")) variable fuel) all rest h in
-            let v = variable_is names tokens a.first a.middle a.reads in
-            let next : AreNames a.first = subst AreNames (sym v.pushed) (one_more_name names v.name lawful v.is_fresh) in
-            more_variables names tokens all rest a.first a.middle v (variables_are fuel a.first a.middle all rest next a.goes_on)
-        | false ↦ λ h.
-            let p = some_pair_parts names all tokens rest h in
-            record { added = []; pushed = sym p.0 ∙ sym (append-nil names); spelled = p.1; each = subst AreNames p.0 lawful } ] e
+    elim (at_keyword (codes "var") tokens) as (λ b. cond b (and_then (variable names tokens) (repeated (at_keyword (codes "var")) variable fuel)) (Some (names, tokens)) ≡ Some (all, rest) → AreVariables names tokens all rest) [
+      | true ↦ λ h.
+          let a = both (variable names tokens) (repeated (at_keyword (codes "var")) variable fuel) all rest h in
+          let v = variable_is names tokens a.first a.middle a.reads in
+          let next : AreNames a.first = subst AreNames (sym v.pushed) (one_more_name names v.name lawful v.is_fresh) in
+          more_variables names tokens all rest a.first a.middle v (variables_are fuel a.first a.middle all rest next a.goes_on)
+      | false ↦ λ h.
+          let p = some_pair_parts names all tokens rest h in
+          record { added = []; pushed = sym p.0 ∙ sym (append-nil names); spelled = p.1; each = subst AreNames p.0 lawful }
+    ] e
 
 resumes : {S T : Type 0} (read : S → List Token → Found T) (state other : S) (tokens us : List Token) (found : Found T) → state ≡ other → tokens ≡ us → read other us ≡ found → read state tokens ≡ found
 resumes read state other tokens us found p q e = rw (p, q) e
@@ -128,24 +128,26 @@ module _ (vs more : List (List ℕ)) where
   unfolding repeated one_more
   statements_are zero body tokens all rest e = let f : ⊥ = cc in absurd f
   statements_are (suc fuel) body tokens all rest e =
-      elim (at_symbol RightBrace tokens) as (λ b. cond (not b) (and_then (one_more (length vs) (vs ++ more) body tokens) (repeated (λ ts. not (at_symbol RightBrace ts)) (one_more (length vs) (vs ++ more)) fuel)) (Some (body, tokens)) ≡ Some (all, rest) → AreStatements body tokens all rest)
-          [ true ↦ λ h.
-              let p = no_more body tokens all rest h in
-              record { added = []; part = []; pushed = p.0 ∙ sym (append-nil body); spelled = p.1; reads = no_statement }
-          | false ↦ λ h.
-              let a = both (one_more (length vs) (vs ++ more) body tokens) (repeated (λ ts. not (at_symbol RightBrace ts)) (one_more (length vs) (vs ++ more)) fuel) all rest h in
-              let x = both (statement (length vs) (vs ++ more) tokens) _ a.first a.middle a.reads in
-              let front = statement_is vs more tokens x.first x.middle x.reads in
-              let y = both (end_of_statement x.middle) _ a.first a.middle x.goes_on in
-              let p = some_pair_parts (body ++ x.first ∷ []) a.first y.middle a.middle y.goes_on in
-              let others : repeated (λ ts. not (at_symbol RightBrace ts)) (one_more (length vs) (vs ++ more)) fuel (body ++ x.first ∷ []) y.middle ≡ Some (all, rest) =
-                  resumes (repeated (λ ts. not (at_symbol RightBrace ts)) (one_more (length vs) (vs ++ more)) fuel) (body ++ x.first ∷ []) a.first y.middle a.middle (Some (all, rest)) p.0 p.1 a.goes_on in
-              elim (end_of_statement_is x.middle y.first y.middle y.reads)
-                  [ inl q ↦
-                      let at : at_symbol RightBrace y.middle ≡ true = subst (λ ts. at_symbol RightBrace ts ≡ true) q.1 q.0 in
-                      let last = statements_end fuel (body ++ x.first ∷ []) y.middle all rest at others in
-                      before_brace body tokens all rest x.first x.middle front (last.0, q.1 ∙ last.1)
-                  | inr q ↦ after_semicolon body tokens all rest x.first x.middle y.middle front q (statements_are fuel (body ++ x.first ∷ []) y.middle all rest others) ] ] e
+      elim (at_symbol RightBrace tokens) as (λ b. cond (not b) (and_then (one_more (length vs) (vs ++ more) body tokens) (repeated (λ ts. not (at_symbol RightBrace ts)) (one_more (length vs) (vs ++ more)) fuel)) (Some (body, tokens)) ≡ Some (all, rest) → AreStatements body tokens all rest) [
+        | true ↦ λ h.
+            let p = no_more body tokens all rest h in
+            record { added = []; part = []; pushed = p.0 ∙ sym (append-nil body); spelled = p.1; reads = no_statement }
+        | false ↦ λ h.
+            let a = both (one_more (length vs) (vs ++ more) body tokens) (repeated (λ ts. not (at_symbol RightBrace ts)) (one_more (length vs) (vs ++ more)) fuel) all rest h in
+            let x = both (statement (length vs) (vs ++ more) tokens) _ a.first a.middle a.reads in
+            let front = statement_is vs more tokens x.first x.middle x.reads in
+            let y = both (end_of_statement x.middle) _ a.first a.middle x.goes_on in
+            let p = some_pair_parts (body ++ x.first ∷ []) a.first y.middle a.middle y.goes_on in
+            let others : repeated (λ ts. not (at_symbol RightBrace ts)) (one_more (length vs) (vs ++ more)) fuel (body ++ x.first ∷ []) y.middle ≡ Some (all, rest) =
+            resumes (repeated (λ ts. not (at_symbol RightBrace ts)) (one_more (length vs) (vs ++ more)) fuel) (body ++ x.first ∷ []) a.first y.middle a.middle (Some (all, rest)) p.0 p.1 a.goes_on in
+            elim (end_of_statement_is x.middle y.first y.middle y.reads) [
+              | inl q ↦
+                  let at : at_symbol RightBrace y.middle ≡ true = subst (λ ts. at_symbol RightBrace ts ≡ true) q.1 q.0 in
+                  let last = statements_end fuel (body ++ x.first ∷ []) y.middle all rest at others in
+                  before_brace body tokens all rest x.first x.middle front (last.0, q.1 ∙ last.1)
+              | inr q ↦ after_semicolon body tokens all rest x.first x.middle y.middle front q (statements_are fuel (body ++ x.first ∷ []) y.middle all rest others)
+            ]
+      ] e
 
   -- "{" { Stmt ";" } "}"
   pub record IsBlock (has_int : Bool) (tokens : List Token) (body : List FirstStmt) (rest : List Token) : Type 0 where
@@ -203,7 +205,7 @@ module _ (vs more : List (List ℕ)) where
       let p = some_pair_parts made f x.middle rest x.goes_on in
       let part : List Token = func_tokens b.first d.first x_is.part in
       let spelled : tokens ≡ part ++ x.middle =
-          spelled_func b.first (result_tokens d.first) x_is.part tokens a.middle b.middle c.middle d.middle x.middle a_is b_is c_is d_is x_is.spelled in
+      spelled_func b.first (result_tokens d.first) x_is.part tokens a.middle b.middle c.middle d.middle x.middle a_is b_is c_is d_is x_is.spelled in
       let whole = whole_func b.first d.first x_is.part x.first x_is.reads in
       let found : IsLawfulFunc tokens made x.middle = record { front = record { part = part; spelled = spelled; reads = whole }; ends = x_is.ends } in
       subst (λ ts. IsLawfulFunc tokens f ts) p.1 (subst (λ g. IsLawfulFunc tokens g x.middle) p.0 found)
@@ -242,32 +244,33 @@ pub functions_are : (vs : List (List ℕ)) (fuel : ℕ) (declared : Declared) (t
 unfolding repeated one_more_function
 functions_are vs zero declared tokens all rest more names lawful e = let f : ⊥ = cc in absurd f
 functions_are vs (suc fuel) declared tokens all rest more names lawful e =
-    elim (is_left tokens) as (λ b. is_left tokens ≡ b → cond b (and_then (one_more_function (length vs) declared tokens) (repeated is_left (one_more_function (length vs)) fuel)) (Some (declared, tokens)) ≡ Some (all, rest) → AreFunctions vs declared tokens all)
-        [ true ↦ λ left h.
-            let a = both (one_more_function (length vs) declared tokens) (repeated is_left (one_more_function (length vs)) fuel) all rest h in
-            let x = both (function (length vs) declared.names tokens) _ a.first a.middle a.reads in
-            let found = function_is vs more tokens x.first x.middle (subst (λ l. function (length vs) l tokens ≡ Some (x.first, x.middle)) names x.reads) in
-            let y = both (symbol Semicolon x.middle) _ a.first a.middle x.goes_on in
-            let y_is = symbol_is Semicolon x.middle y.first y.middle y.reads in
-            let p = holds (is_new declared.names x.first.name) (with_function declared x.first) y.middle a.first a.middle y.goes_on in
-            let others : repeated is_left (one_more_function (length vs)) fuel (with_function declared x.first) y.middle ≡ Some (all, rest) =
-                resumes (repeated is_left (one_more_function (length vs)) fuel) (with_function declared x.first) a.first y.middle a.middle (Some (all, rest)) p.value_is p.rest_is a.goes_on in
-            let next = one_more_name declared.names x.first.name lawful p.true_is in
-            let behind : declared.names ++ x.first.name ∷ [] ≡ vs ++ (more ++ x.first.name ∷ []) = ap (λ l. l ++ x.first.name ∷ []) names ∙ append_assoc vs more (x.first.name ∷ []) in
-            more_functions vs declared tokens all x.first x.middle y.middle more found y_is
-                (functions_are vs fuel (with_function declared x.first) y.middle all rest (more ++ x.first.name ∷ []) behind next others)
-        | false ↦ λ left h.
-            let p = some_pair_parts declared all tokens rest h in
-            let none : tokens ≡ [] = nothing_left tokens left in
-            let found : AreFunctions vs declared tokens declared = record {
-              added = [];
-              names = sym (append-nil declared.names);
-              pushed = sym (append-nil declared.functions);
-              reads = subst (λ ts. AreFuncs vs ts []) (sym none) no_function;
-              lawful = tt;
-              each = lawful;
-            } in
-            subst (AreFunctions vs declared tokens) p.0 found ] refl e
+    elim (is_left tokens) as (λ b. is_left tokens ≡ b → cond b (and_then (one_more_function (length vs) declared tokens) (repeated is_left (one_more_function (length vs)) fuel)) (Some (declared, tokens)) ≡ Some (all, rest) → AreFunctions vs declared tokens all) [
+      | true ↦ λ left h.
+          let a = both (one_more_function (length vs) declared tokens) (repeated is_left (one_more_function (length vs)) fuel) all rest h in
+          let x = both (function (length vs) declared.names tokens) _ a.first a.middle a.reads in
+          let found = function_is vs more tokens x.first x.middle (subst (λ l. function (length vs) l tokens ≡ Some (x.first, x.middle)) names x.reads) in
+          let y = both (symbol Semicolon x.middle) _ a.first a.middle x.goes_on in
+          let y_is = symbol_is Semicolon x.middle y.first y.middle y.reads in
+          let p = holds (is_new declared.names x.first.name) (with_function declared x.first) y.middle a.first a.middle y.goes_on in
+          let others : repeated is_left (one_more_function (length vs)) fuel (with_function declared x.first) y.middle ≡ Some (all, rest) =
+          resumes (repeated is_left (one_more_function (length vs)) fuel) (with_function declared x.first) a.first y.middle a.middle (Some (all, rest)) p.value_is p.rest_is a.goes_on in
+          let next = one_more_name declared.names x.first.name lawful p.true_is in
+          let behind : declared.names ++ x.first.name ∷ [] ≡ vs ++ (more ++ x.first.name ∷ []) = ap (λ l. l ++ x.first.name ∷ []) names ∙ append_assoc vs more (x.first.name ∷ []) in
+          more_functions vs declared tokens all x.first x.middle y.middle more found y_is
+          (functions_are vs fuel (with_function declared x.first) y.middle all rest (more ++ x.first.name ∷ []) behind next others)
+      | false ↦ λ left h.
+          let p = some_pair_parts declared all tokens rest h in
+          let none : tokens ≡ [] = nothing_left tokens left in
+          let found : AreFunctions vs declared tokens declared = record {
+            added = [];
+            names = sym (append-nil declared.names);
+            pushed = sym (append-nil declared.functions);
+            reads = subst (λ ts. AreFuncs vs ts []) (sym none) no_function;
+            lawful = tt;
+            each = lawful;
+          } in
+          subst (AreFunctions vs declared tokens) p.0 found
+    ] refl e
 
 -- what holds of the file that the reader gives
 pub record IsFile (tokens : List Token) (file : FirstFile) : Type 0 where

@@ -1,5 +1,5 @@
 -- A table of places after a new name has come to the end.
-use Rattle.std.proofs.Common.{◌≡◌, ◌∙◌, ℕ, List, [], ◌∷◌, ◌++◌, length, Bool, true, false, cond, Option, Some, None, ap, sym, Vec, refl, subst}
+use Rattle.std.proofs.Common.{◌≡◌, ◌∙◌, ℕ, List, [], ◌∷◌, ◌++◌, length, Bool, true, false, Some, None, sym, Vec, refl, subst}
 use Rattle.std.specs.declared.cmp.Ordering.{Ordering}
 use Rattle.std.specs.BTreeMap.{BTreeMap, get_by, is_at, UpdatesBy}
 use Rattle.std.specs.Map.{KeepsOthers, IsKeyTest, AreApart, lookup}
@@ -31,13 +31,14 @@ apart_in_order name key other differ e =
 pub has_places_push : (table next : BTreeMap (Vec ℕ Global) ℕ) (names : List (List ℕ)) (key : Vec ℕ Global) (count : ℕ) → HasPlaces table names → place key.items names ≡ None → count ≡ length names
     → UpdatesBy key_cmp (key_cmp key) table next (Some count) → HasPlaces next (names ++ key.items ∷ [])
 has_places_push table next names key count has new at updates = λ name.
-    elim (bytes_eq key.items name) as (λ b. bytes_eq key.items name ≡ b → get_by (λ k. slice_cmp nat_cmp name k.items) next ≡ place name (names ++ key.items ∷ []))
-        [ true ↦ λ e.
-            let same : key.items ≡ name = (bytes_eq-Decides key.items name).0 e in
-            subst (λ l. get_by (λ k. slice_cmp nat_cmp l k.items) next ≡ place name (names ++ key.items ∷ [])) same
-                (updates.1 ∙ rw (place_push name key.items names new, e, at) refl)
-        | false ↦ λ e.
-            others (eq_by_cmp key_cmp) (is_at (key_cmp key)) (λ k. is_eq (slice_cmp nat_cmp name k.items)) table.entries next.entries updates.3
-                (λ x y. (eq_by_cmp_equiv nat_list_cmp_total).congr name x.items y.items) (λ k. apart_in_order name key.items k.items e)
-            ∙ has name ∙ rw (place_push name key.items names new, e) refl ]
-        refl
+    elim (bytes_eq key.items name) as (λ b. bytes_eq key.items name ≡ b → get_by (λ k. slice_cmp nat_cmp name k.items) next ≡ place name (names ++ key.items ∷ [])) [
+      | true ↦ λ e.
+          let same : key.items ≡ name = (bytes_eq-Decides key.items name).0 e in
+          subst (λ l. get_by (λ k. slice_cmp nat_cmp l k.items) next ≡ place name (names ++ key.items ∷ [])) same
+          (updates.1 ∙ rw (place_push name key.items names new, e, at) refl)
+      | false ↦ λ e.
+          others (eq_by_cmp key_cmp) (is_at (key_cmp key)) (λ k. is_eq (slice_cmp nat_cmp name k.items)) table.entries next.entries updates.3
+          (λ x y. (eq_by_cmp_equiv nat_list_cmp_total).congr name x.items y.items) (λ k. apart_in_order name key.items k.items e)
+          ∙ has name ∙ rw (place_push name key.items names new, e) refl
+    ]
+    refl

@@ -5,8 +5,8 @@ use Rattle.gno_syntax.specs.declared.token.Token.{Token}
 use Rattle.gno_syntax.specs.declared.token.Token.TheVariants as token
 use Rattle.gno_syntax.specs.declared.cursor.Symbol.{Symbol}
 use Rattle.gno_syntax.specs.declared.cursor.Symbol.TheVariants.{Increment, LeftParen, RightParen, LeftBrace, RightBrace, Semicolon}
-use Rattle.gno_syntax.specs.declared.cursor.FirstFault.{FirstFault}
-use Rattle.gno_syntax.specs.declared.cursor.FirstFault.TheVariants.{NotFirst, NoMemory}
+use Rattle.gno_syntax.specs.declared.fault.FirstFault.{FirstFault}
+use Rattle.gno_syntax.specs.declared.fault.FirstFault.TheVariants.{NotFirst, NoMemory}
 use Rattle.gno_syntax.specs.Reader.{Found}
 
 abbrev pub token_of : Symbol → Token

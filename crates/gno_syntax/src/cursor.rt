@@ -3,17 +3,8 @@ ghost use Rattle.std.specs.Prelude.{◌≡◌};
 ghost use Rattle.gno_syntax.specs.Cursor.{token_of, Gives, GivesWord};
 ghost use Rattle.gno_syntax.specs.Reader as reader;
 
-use crate::Token;
+use crate::{FirstFault, Token};
 use std::marker::Model;
-
-/// Why there is no file.
-#[derive(Clone, Copy, Debug, PartialEq, Eq)]
-pub enum FirstFault {
-    /// The text is not in the first form.
-    NotFirst,
-    /// Memory is wanting.
-    NoMemory,
-}
 
 /// A token that is no word.
 #[derive(Clone, Copy)]

@@ -1,11 +1,18 @@
 // The reader of the first form. Each function reads one production of the grammar.
 ghost use Rattle.std.specs.Prelude.{◌≡◌, [], length, IfOk, IsErrOf};
 ghost use Rattle.gno_syntax.specs.Cursor.{Gives};
+ghost use Rattle.gno_syntax.specs.Form.{IsFirstForm};
+ghost use Rattle.gno_syntax.specs.Lawful.{IsLawful};
 ghost use Rattle.gno_syntax.specs.Reader as reader;
+ghost use Rattle.gno_syntax.specs.Reader.{first_of};
+ghost use Rattle.gno_syntax.specs.declared.tree.FirstFile.{FirstFile};
 
-use crate::cursor::{Cursor, FirstFault, Symbol};
+use crate::cursor::{Cursor, Symbol};
+use crate::declared::Declared;
+use crate::fault::FirstFault;
 use crate::names::is_name;
 use crate::scope::Scope;
+use crate::tokens::tokens_of;
 use crate::tree::{FirstExpr, FirstFile, FirstFunc, FirstStmt};
 use gno_base::{Bytes, List};
 use std::alloc::Global;
@@ -188,11 +195,7 @@ impl<'a> Reader<'a> {
 
     // "{" { Stmt ";" } "}"
     #[tactic(auto, unfolding(crate::specs::Reader::block, crate::specs::Reader::and_then, crate::specs::Reader::where_true))]
-    fn block(
-        &self,
-        tokens: &mut Cursor<'_>,
-        has_int: bool,
-    ) -> Result<List<FirstStmt>, FirstFault>
+    fn block(&self, tokens: &mut Cursor<'_>, has_int: bool) -> Result<List<FirstStmt>, FirstFault>
         ensures { Gives (reader.block self.now.variables self.now.names.now has_int tokens.old) result tokens.new }
     {
         tokens.symbol(Symbol::LeftBrace)?;
@@ -203,4 +206,118 @@ impl<'a> Reader<'a> {
         }
         Ok(body)
     }
+
+    // "func" name "(" "cur" "realm" ")" [ "int" ] "{" { Stmt ";" } "}"
+    #[tactic(auto, unfolding(crate::specs::Reader::function, crate::specs::Reader::and_then))]
+    fn function(&self, tokens: &mut Cursor<'_>) -> Result<FirstFunc, FirstFault>
+        ensures { Gives (reader.function self.now.variables self.now.names.now tokens.old) result tokens.new }
+    {
+        tokens.keyword("func")?;
+        let name = copied(self.alloc, tokens.word()?)?;
+        parameters(tokens)?;
+        let has_int = has_result(tokens)?;
+        let body = self.block(tokens, has_int)?;
+        Ok(FirstFunc {
+            name,
+            has_int,
+            body,
+        })
+    }
 }
+
+// What is declared, with one more function.
+#[tactic(auto, unfolding(crate::specs::Reader::one_more_function, crate::specs::Reader::and_then, crate::specs::Reader::where_true))]
+fn one_more_function(
+    alloc: Global,
+    tokens: &mut Cursor<'_>,
+    variables: usize,
+    declared: Declared,
+) -> Result<Declared, FirstFault>
+    ensures { Gives (reader.one_more_function variables declared tokens.old) result tokens.new }
+{
+    let Declared {
+        names,
+        mut functions,
+    } = declared;
+    let reader = Reader {
+        alloc,
+        names: &names,
+        variables,
+    };
+    let function = reader.function(tokens)?;
+    tokens.symbol(Symbol::Semicolon)?;
+    let names = names.declare(alloc, function.name.as_slice())?;
+    let Ok(()) = functions.push(function) else {
+        return Err(FirstFault::NoMemory);
+    };
+    Ok(Declared { names, functions })
+}
+
+// All functions, behind the variables.
+fn functions(alloc: Global, tokens: &mut Cursor<'_>, names: Scope) -> Result<Declared, FirstFault>
+    ensures { Gives (reader.functions (length names) (record { names = names; functions = [] }) tokens.old) result tokens.new }
+{
+    let variables = names.len();
+    let mut declared = Declared {
+        names,
+        functions: List::new(alloc),
+    };
+    while tokens.is_left() {
+        declared = one_more_function(alloc, tokens, variables, declared)?;
+    }
+    Ok(declared)
+}
+
+// The file that the tokens are.
+#[tactic(auto, unfolding(crate::specs::Reader::file_in, crate::specs::Reader::and_then))]
+fn file(alloc: Global, tokens: &mut Cursor<'_>) -> Result<FirstFile, FirstFault>
+    ensures file { IfOk result (λ file. reader.file_in tokens.old ≡ Some file) }
+    ensures not_first { IsErrOf result FirstFault.NotFirst → reader.file_in tokens.old ≡ None }
+{
+    let name = package_clause(alloc, tokens)?;
+    let names = variables(alloc, tokens)?;
+    let count = names.len();
+    let Declared { names, functions } = functions(alloc, tokens, names)?;
+    Ok(FirstFile {
+        name,
+        variables: names.into_variables(count),
+        functions,
+    })
+}
+
+/// How many bytes a text of the first form has at most.
+const MAX_TEXT: usize = 1_048_576;
+
+// What `first_of` gives of the text.
+#[tactic(auto, unfolding(crate::specs::Reader::first_of))]
+fn read(alloc: Global, text: &[u8]) -> Result<FirstFile, FirstFault>
+    ensures file { IfOk result (λ file. first_of text.now ≡ Some file) }
+    ensures not_first { IsErrOf result FirstFault.NotFirst → first_of text.now ≡ None }
+{
+    if text.len() > MAX_TEXT {
+        return Err(FirstFault::NotFirst);
+    }
+    match tokens_of(alloc, text) {
+        Ok(Some(tokens)) => file(alloc, &mut Cursor::new(tokens.as_slice())),
+        Ok(None) => Err(FirstFault::NotFirst),
+        Err(_) => Err(FirstFault::NoMemory),
+    }
+}
+
+/// The file that a text is, in the first form. `NotFirst` comes exactly where the text is not in the first form.
+pub fn first_form(alloc: Global, text: &[u8]) -> Result<FirstFile, FirstFault>
+    ensures file { IfOk result (λ file. first_of text.now ≡ Some file) }
+    ensures first { IfOk result (λ file. IsFirstForm text.now file) }
+    ensures not_first { IsErrOf result FirstFault.NotFirst → first_of text.now ≡ None }
+    ensures no_file { IsErrOf result FirstFault.NotFirst → (file : FirstFile) → IsFirstForm text.now file → ⊥ }
+    ensures lawful { IfOk result (λ file. IsLawful file) }
+{
+    let file = read(alloc, text)?;
+    Ok(file)
+}
+
+/// `first_of` gives the file that a text is, in the first form: each text has one at most.
+pub fn first_form_law(text: &[u8])
+    ensures reads { (file : FirstFile) → first_of text.now ≡ Some file → IsFirstForm text.now file }
+    ensures found { (file : FirstFile) → IsFirstForm text.now file → first_of text.now ≡ Some file }
+{}

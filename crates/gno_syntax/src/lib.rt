@@ -3,6 +3,7 @@
 
 mod cursor;
 mod declared;
+mod fault;
 mod first;
 mod names;
 mod scope;
@@ -10,7 +11,8 @@ mod token;
 mod tokens;
 mod tree;
 
-pub use cursor::FirstFault;
+pub use fault::FirstFault;
+pub use first::{first_form, first_form_law};
 pub use names::is_name;
 pub use token::Token;
 pub use tokens::tokens_of;

@@ -1,4 +1,4 @@
-use Rattle.std.proofs.Common.{sym, refl, codes, rules}
+use Rattle.std.proofs.Common.{sym, codes, rules}
 use Rattle.gno_syntax.specs.Reader.{at_keyword, variable, variables}
 use Rattle.gno_syntax.proofs.Repeats.{whole_end, whole_more, whole_fails}
 use Rattle.gno_syntax.proofs.Shorter.{variable_takes}

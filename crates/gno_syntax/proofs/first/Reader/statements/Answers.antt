@@ -12,7 +12,7 @@ loop-tokens-init c = search rules
 pub returns-in_err-body : goal.returns-in_err-body
 returns-in_err-body c =
     let e = whole_fails (λ ts. not (at_symbol RightBrace ts)) (one_more c.args.self.now.variables c.args.self.now.names.now) (one_more_takes c.args.self.now.variables c.args.self.now.names.now)
-        _ c.loop-tokens.body c.loop-tokens.tokens _ (sym (ap not c.loop-tokens-test.ensures)) c.in_err-body.ensures c.loop-tokens.invariant in
+    _ c.loop-tokens.body c.loop-tokens.tokens _ (sym (ap not c.loop-tokens-test.ensures)) c.in_err-body.ensures c.loop-tokens.invariant in
     search (rules, e)
 
 pub loop-tokens-smaller : goal.loop-tokens-smaller

@@ -1,4 +1,4 @@
-use Rattle.std.proofs.Common.{◌≡◌, ◌∙◌, ◌++◌, ◌∷◌, [], ℕ, List, Some, None, ap, sym, subst, true, length}
+use Rattle.std.proofs.Common.{◌≡◌, ◌∙◌, ◌++◌, ◌∷◌, [], None, ap, sym, subst, true, length}
 use Rattle.gno_syntax.specs.Scope.{HasPlaces}
 use Rattle.gno_syntax.specs.Places.{place}
 use Rattle.gno_syntax.specs.Reader.{is_new}
