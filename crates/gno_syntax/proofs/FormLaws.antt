@@ -6,7 +6,7 @@ use Rattle.std.proofs.lemmas.Bool.Decides.{nat_tests}
 use Rattle.gno_syntax.specs.declared.tree.FirstFile.{FirstFile}
 use Rattle.gno_syntax.specs.Names.{is_name, is_letter, is_digit, is_reserved, begins_with_letter}
 use Rattle.gno_syntax.specs.Lawful.{IsLawful}
-use Rattle.gno_syntax.specs.Tokens.{tokens_in}
+use Rattle.gno_syntax.specs.Reading.{tokens_in}
 use Rattle.gno_syntax.specs.Form.{IsFirstForm}
 use Rattle.gno_syntax.specs.Reader.{first_of, file_of_tokens}
 use Rattle.gno_syntax.proofs.Places.{both_true}

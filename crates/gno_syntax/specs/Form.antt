@@ -14,7 +14,7 @@ use Rattle.gno_syntax.specs.declared.tree.FirstExpr.{FirstExpr}
 use Rattle.gno_syntax.specs.declared.tree.FirstExpr.TheVariants as expr
 use Rattle.gno_syntax.specs.Names.{is_name}
 use Rattle.gno_syntax.specs.Lawful.{IsLawful}
-use Rattle.gno_syntax.specs.Tokens.{tokens_in}
+use Rattle.gno_syntax.specs.Reading.{tokens_in}
 
 -- "var" name "int" ";"
 abbrev pub variable_tokens : List ℕ → List Token

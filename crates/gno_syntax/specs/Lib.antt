@@ -1,6 +1,6 @@
 pub mod Names
 pub mod Lawful
-pub mod Tokens
+pub mod Reading
 pub mod Form
 pub mod Places
 pub mod Reader

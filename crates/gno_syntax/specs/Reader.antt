@@ -11,7 +11,7 @@ use Rattle.gno_syntax.specs.declared.tree.FirstExpr.TheVariants as expr
 use Rattle.gno_syntax.specs.declared.declared.Declared.{Declared}
 use Rattle.gno_syntax.specs.Names.{is_among, is_name}
 use Rattle.gno_syntax.specs.Places.{place}
-use Rattle.gno_syntax.specs.Tokens.{tokens_in}
+use Rattle.gno_syntax.specs.Reading.{tokens_in}
 
 -- what is read at the front of a list of tokens, and the tokens behind it
 abbrev pub Found : Type 0 → Type 0

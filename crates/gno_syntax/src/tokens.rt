@@ -1,6 +1,6 @@
 // The tokens of a text.
 ghost use Rattle.std.specs.Prelude.{◌≡◌, IfOk};
-ghost use Rattle.gno_syntax.specs.Tokens.{tokens_in};
+ghost use Rattle.gno_syntax.specs.Reading.{tokens_in};
 
 use crate::Token;
 use gno_base::List;
