@@ -15,7 +15,7 @@ use Rattle.gno_syntax.specs.Names.{is_name}
 use Rattle.gno_syntax.specs.Lawful.{IsBodyIn, AreFuncsIn, IsLawful}
 use Rattle.gno_syntax.specs.Form.{variable_tokens, result_tokens, IsExpr, named, IsStmt, incremented, returned, IsBody, no_statement, last_statement, next_statement, IsFunc, AreFuncs, no_function, next_function, Reads}
 use Rattle.gno_syntax.specs.declared.declared.Declared.{Declared}
-use Rattle.gno_syntax.specs.Reader.{and_then, where_true, same_symbol, at_symbol, at_keyword, symbol, word, keyword, package_clause, is_new, variable, variables, parameters, has_result, variable_name, expression, return_statement, increment_statement, statement, end_of_statement, one_more, statements, repeats, block, ends_well, function, functions, is_left, with_function, one_more_function, file_in}
+use Rattle.gno_syntax.specs.Productions.{and_then, where_true, same_symbol, at_symbol, at_keyword, symbol, word, keyword, package_clause, is_new, variable, variables, parameters, has_result, variable_name, expression, return_statement, increment_statement, statement, end_of_statement, one_more, statements, repeats, block, ends_well, function, functions, is_left, with_function, one_more_function, file_in}
 use Rattle.gno_syntax.proofs.Repeats.{repeats_end, repeats_more}
 use Rattle.gno_syntax.proofs.Places.{same_bytes, both_true}
 use Rattle.gno_syntax.proofs.Distinct.{AreNames, names_in_front, next_is_new, number_at}

@@ -9,7 +9,7 @@ use Rattle.std.proofs.lemmas.Option.{slice_get_within}
 use Rattle.gno_syntax.specs.Names.{is_among, is_name}
 use Rattle.gno_syntax.specs.Lawful.{are_distinct}
 use Rattle.gno_syntax.specs.Places.{place}
-use Rattle.gno_syntax.specs.Reader.{below, number, is_new}
+use Rattle.gno_syntax.specs.Productions.{below, number, is_new}
 use Rattle.gno_syntax.proofs.Places.{bytes_eq_sym, both_true, not_true, place_is, place_at, place_append}
 
 regrouped : (a b d m : Bool) → (not (a || (b || false)) && (d && not m)) ≡ ((not a && d) && not (b || m))

@@ -7,7 +7,7 @@ use Rattle.std.proofs.lemmas.Option.{some_pair_parts}
 use Rattle.gno_syntax.specs.declared.token.Token.{Token}
 use Rattle.gno_syntax.specs.declared.token.Token.TheVariants.{Word, Increment, LeftParen, RightParen, LeftBrace, RightBrace, Semicolon}
 use Rattle.gno_syntax.specs.Names.{is_name}
-use Rattle.gno_syntax.specs.Reader.{and_then, where_true, same_symbol, at_keyword, symbol, word, keyword, package_clause, is_new, variable, parameters, has_result, number, found_number, variable_name, expression, return_statement, increment_statement, statement}
+use Rattle.gno_syntax.specs.Productions.{and_then, where_true, same_symbol, at_keyword, symbol, word, keyword, package_clause, is_new, variable, parameters, has_result, number, found_number, variable_name, expression, return_statement, increment_statement, statement}
 use Rattle.gno_syntax.specs.declared.tree.FirstStmt.{FirstStmt}
 use Rattle.gno_syntax.specs.declared.tree.FirstStmt.TheVariants as stmt
 use Rattle.gno_syntax.specs.declared.tree.FirstExpr.{FirstExpr}

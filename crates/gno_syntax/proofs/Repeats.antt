@@ -1,7 +1,7 @@
 -- A repetition whose steps take tokens is its first step and then the rest of it.
 use Rattle.std.proofs.Common.{◌≡◌, ℕ, zero, suc, ◌<◌, List, length, Bool, true, false, cond, refl, ◌∙◌, ap, Some, None, arith}
 use Rattle.gno_syntax.specs.declared.token.Token.{Token}
-use Rattle.gno_syntax.specs.Reader.{Found, and_then, repeated, repeats}
+use Rattle.gno_syntax.specs.Productions.{Found, and_then, repeated, repeats}
 use Rattle.gno_syntax.specs.Cursor.{Fails}
 use Rattle.gno_syntax.specs.declared.fault.FirstFault.{FirstFault}
 use Rattle.gno_syntax.specs.declared.fault.FirstFault.TheVariants.{NotFirst, NoMemory}

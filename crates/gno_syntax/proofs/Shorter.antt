@@ -7,7 +7,7 @@ use Rattle.gno_syntax.specs.declared.tree.FirstStmt.TheVariants as stmt
 use Rattle.gno_syntax.specs.declared.tree.FirstFunc.{FirstFunc}
 use Rattle.gno_syntax.specs.declared.tree.FirstExpr.TheVariants as expr
 use Rattle.gno_syntax.specs.Form.{result_tokens}
-use Rattle.gno_syntax.specs.Reader.{Found, and_then, at_symbol, at_keyword, symbol, word, keyword, is_new, variable, parameters, has_result, number, found_number, variable_name, expression, return_statement, increment_statement, statement, end_of_statement, one_more, statements, repeats, repeated, block, ends_well, function, with_function, one_more_function}
+use Rattle.gno_syntax.specs.Productions.{Found, and_then, at_symbol, at_keyword, symbol, word, keyword, is_new, variable, parameters, has_result, number, found_number, variable_name, expression, return_statement, increment_statement, statement, end_of_statement, one_more, statements, repeats, repeated, block, ends_well, function, with_function, one_more_function}
 use Rattle.gno_syntax.proofs.Repeats.{both, Shortens}
 use Rattle.gno_syntax.proofs.Pieces.{holds, symbol_is, word_is, keyword_is, variable_is, parameter_tokens, parameters_is, has_result_is}
 

@@ -13,7 +13,7 @@ use Rattle.gno_syntax.specs.Names.{is_name}
 use Rattle.gno_syntax.specs.Lawful.{IsExprIn, IsStmtIn, IsBodyIn, AreFuncsIn, IsLawful, are_distinct}
 use Rattle.gno_syntax.specs.Form.{variable_tokens, result_tokens, IsExpr, named, IsStmt, incremented, returned, IsBody, no_statement, last_statement, next_statement, IsFunc, AreFuncs, no_function, next_function, Reads}
 use Rattle.gno_syntax.specs.declared.declared.Declared.{Declared}
-use Rattle.gno_syntax.specs.Reader.{Found, and_then, at_symbol, at_keyword, symbol, word, keyword, package_clause, is_new, variable, variables, parameters, has_result, statement, end_of_statement, one_more, statements, repeats, repeated, block, ends_well, function, functions, is_left, with_function, one_more_function, file_in, file_of, value_of}
+use Rattle.gno_syntax.specs.Productions.{Found, and_then, at_symbol, at_keyword, symbol, word, keyword, package_clause, is_new, variable, variables, parameters, has_result, statement, end_of_statement, one_more, statements, repeats, repeated, block, ends_well, function, functions, is_left, with_function, one_more_function, file_in, file_of, value_of}
 use Rattle.gno_syntax.proofs.Repeats.{both}
 use Rattle.gno_syntax.proofs.Distinct.{AreNames, no_names, one_more_name}
 use Rattle.gno_syntax.proofs.Pieces.{holds, symbol_is, word_is, keyword_is, IsVariable, variable_is, parameter_tokens, parameters_is, has_result_is, Front, statement_is, package_clause_is}

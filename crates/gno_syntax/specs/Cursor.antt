@@ -7,7 +7,7 @@ use Rattle.gno_syntax.specs.declared.cursor.Symbol.{Symbol}
 use Rattle.gno_syntax.specs.declared.cursor.Symbol.TheVariants.{Increment, LeftParen, RightParen, LeftBrace, RightBrace, Semicolon}
 use Rattle.gno_syntax.specs.declared.fault.FirstFault.{FirstFault}
 use Rattle.gno_syntax.specs.declared.fault.FirstFault.TheVariants.{NotFirst, NoMemory}
-use Rattle.gno_syntax.specs.Reader.{Found}
+use Rattle.gno_syntax.specs.Productions.{Found}
 
 abbrev pub token_of : Symbol → Token
 token_of Increment = token.Increment

@@ -3,6 +3,6 @@ pub mod Lawful
 pub mod Reading
 pub mod Form
 pub mod Places
-pub mod Reader
+pub mod Productions
 pub mod Scope
 pub mod Cursor

@@ -1,7 +1,7 @@
 // The tokens that are left.
 ghost use Rattle.std.specs.Prelude.{◌≡◌};
 ghost use Rattle.gno_syntax.specs.Cursor.{token_of, Gives, GivesWord};
-ghost use Rattle.gno_syntax.specs.Reader as reader;
+ghost use Rattle.gno_syntax.specs.Productions as reader;
 
 use crate::{FirstFault, Token};
 use std::marker::Model;
@@ -17,7 +17,7 @@ pub enum Symbol {
     Semicolon,
 }
 
-#[tactic(auto, unfolding(crate::specs::Reader::same_symbol))]
+#[tactic(auto, unfolding(crate::specs::Productions::same_symbol))]
 fn is_symbol(symbol: Symbol, token: &Token) -> bool
     ensures { result ≡ reader.same_symbol (token_of symbol) token.now }
 {
@@ -65,7 +65,7 @@ impl<'a> Cursor<'a> {
     }
 
     /// Whether the symbol comes next.
-    #[tactic(auto, unfolding(crate::specs::Reader::at_symbol))]
+    #[tactic(auto, unfolding(crate::specs::Productions::at_symbol))]
     pub fn sees(&self, symbol: Symbol) -> bool
         ensures { result ≡ reader.at_symbol (token_of symbol) self.now }
     {
@@ -76,7 +76,7 @@ impl<'a> Cursor<'a> {
     }
 
     /// Whether the keyword comes next.
-    #[tactic(auto, unfolding(crate::specs::Reader::at_keyword))]
+    #[tactic(auto, unfolding(crate::specs::Productions::at_keyword))]
     pub fn sees_keyword(&self, keyword: &str) -> bool
         ensures { result ≡ reader.at_keyword keyword.now self.now }
     {
@@ -87,7 +87,7 @@ impl<'a> Cursor<'a> {
     }
 
     /// Takes the symbol.
-    #[tactic(auto, unfolding(crate::specs::Reader::symbol, crate::specs::Reader::where_true))]
+    #[tactic(auto, unfolding(crate::specs::Productions::symbol, crate::specs::Productions::where_true))]
     pub fn symbol(&mut self, symbol: Symbol) -> Result<(), FirstFault>
         ensures { Gives (reader.symbol (token_of symbol) self.old) result self.new }
     {
@@ -104,7 +104,7 @@ impl<'a> Cursor<'a> {
     }
 
     /// Takes a word.
-    #[tactic(auto, unfolding(crate::specs::Reader::word))]
+    #[tactic(auto, unfolding(crate::specs::Productions::word))]
     pub fn word(&mut self) -> Result<&'a [u8], FirstFault>
         ensures { GivesWord (reader.word self.old) result self.new }
     {
@@ -118,7 +118,7 @@ impl<'a> Cursor<'a> {
     }
 
     /// Takes the keyword.
-    #[tactic(auto, unfolding(crate::specs::Reader::keyword, crate::specs::Reader::and_then, crate::specs::Reader::where_true))]
+    #[tactic(auto, unfolding(crate::specs::Productions::keyword, crate::specs::Productions::and_then, crate::specs::Productions::where_true))]
     pub fn keyword(&mut self, keyword: &str) -> Result<(), FirstFault>
         ensures { Gives (reader.keyword keyword.now self.old) result self.new }
     {

@@ -3,9 +3,12 @@ ghost use Rattle.std.specs.Prelude.{◌≡◌, [], length, IfOk, IsErrOf};
 ghost use Rattle.gno_syntax.specs.Cursor.{Gives};
 ghost use Rattle.gno_syntax.specs.Form.{IsFirstForm};
 ghost use Rattle.gno_syntax.specs.Lawful.{IsLawful};
-ghost use Rattle.gno_syntax.specs.Reader as reader;
-ghost use Rattle.gno_syntax.specs.Reader.{first_of};
+ghost use Rattle.gno_syntax.specs.Productions as reader;
+ghost use Rattle.gno_syntax.specs.Productions.{first_of};
 ghost use Rattle.gno_syntax.specs.declared.tree.FirstFile.{FirstFile};
+
+#[cfg(test)]
+mod tests;
 
 use crate::cursor::{Cursor, Symbol};
 use crate::declared::Declared;
@@ -28,7 +31,7 @@ fn copied(alloc: Global, word: &[u8]) -> Result<Bytes, FirstFault>
 }
 
 // "package" name ";"
-#[tactic(auto, unfolding(crate::specs::Reader::package_clause, crate::specs::Reader::and_then, crate::specs::Reader::where_true))]
+#[tactic(auto, unfolding(crate::specs::Productions::package_clause, crate::specs::Productions::and_then, crate::specs::Productions::where_true))]
 fn package_clause(alloc: Global, tokens: &mut Cursor<'_>) -> Result<Bytes, FirstFault>
     ensures { Gives (reader.package_clause tokens.old) result tokens.new }
 {
@@ -42,7 +45,7 @@ fn package_clause(alloc: Global, tokens: &mut Cursor<'_>) -> Result<Bytes, First
 }
 
 // "var" name "int" ";"
-#[tactic(auto, unfolding(crate::specs::Reader::variable, crate::specs::Reader::and_then, crate::specs::Reader::where_true))]
+#[tactic(auto, unfolding(crate::specs::Productions::variable, crate::specs::Productions::and_then, crate::specs::Productions::where_true))]
 fn variable(alloc: Global, tokens: &mut Cursor<'_>, names: Scope) -> Result<Scope, FirstFault>
     ensures { Gives (reader.variable names tokens.old) result tokens.new }
 {
@@ -64,7 +67,7 @@ fn variables(alloc: Global, tokens: &mut Cursor<'_>) -> Result<Scope, FirstFault
 }
 
 // "(" "cur" "realm" ")"
-#[tactic(auto, unfolding(crate::specs::Reader::parameters, crate::specs::Reader::and_then))]
+#[tactic(auto, unfolding(crate::specs::Productions::parameters, crate::specs::Productions::and_then))]
 fn parameters(tokens: &mut Cursor<'_>) -> Result<(), FirstFault>
     ensures { Gives (reader.parameters tokens.old) result tokens.new }
 {
@@ -75,7 +78,7 @@ fn parameters(tokens: &mut Cursor<'_>) -> Result<(), FirstFault>
 }
 
 // [ "int" ]
-#[tactic(auto, unfolding(crate::specs::Reader::has_result, crate::specs::Reader::and_then))]
+#[tactic(auto, unfolding(crate::specs::Productions::has_result, crate::specs::Productions::and_then))]
 fn has_result(tokens: &mut Cursor<'_>) -> Result<bool, FirstFault>
     ensures { Gives (reader.has_result tokens.old) result tokens.new }
 {
@@ -87,7 +90,7 @@ fn has_result(tokens: &mut Cursor<'_>) -> Result<bool, FirstFault>
 }
 
 // ";", which may be left out before "}"
-#[tactic(auto, unfolding(crate::specs::Reader::end_of_statement))]
+#[tactic(auto, unfolding(crate::specs::Productions::end_of_statement))]
 fn end_of_statement(tokens: &mut Cursor<'_>) -> Result<(), FirstFault>
     ensures { Gives (reader.end_of_statement tokens.old) result tokens.new }
 {
@@ -118,7 +121,7 @@ struct Reader<'a> {
 }
 
 impl<'a> Reader<'a> {
-    #[tactic(auto, unfolding(crate::specs::Reader::variable_name, crate::specs::Reader::and_then))]
+    #[tactic(auto, unfolding(crate::specs::Productions::variable_name, crate::specs::Productions::and_then))]
     fn variable_name(&self, tokens: &mut Cursor<'_>) -> Result<usize, FirstFault>
         ensures { Gives (reader.variable_name self.now.variables self.now.names.now tokens.old) result tokens.new }
     {
@@ -129,7 +132,7 @@ impl<'a> Reader<'a> {
         }
     }
 
-    #[tactic(auto, unfolding(crate::specs::Reader::expression, crate::specs::Reader::and_then))]
+    #[tactic(auto, unfolding(crate::specs::Productions::expression, crate::specs::Productions::and_then))]
     fn expression(&self, tokens: &mut Cursor<'_>) -> Result<FirstExpr, FirstFault>
         ensures { Gives (reader.expression self.now.variables self.now.names.now tokens.old) result tokens.new }
     {
@@ -137,7 +140,7 @@ impl<'a> Reader<'a> {
     }
 
     // "return" name
-    #[tactic(auto, unfolding(crate::specs::Reader::return_statement, crate::specs::Reader::and_then))]
+    #[tactic(auto, unfolding(crate::specs::Productions::return_statement, crate::specs::Productions::and_then))]
     fn return_statement(&self, tokens: &mut Cursor<'_>) -> Result<FirstStmt, FirstFault>
         ensures { Gives (reader.return_statement self.now.variables self.now.names.now tokens.old) result tokens.new }
     {
@@ -146,7 +149,7 @@ impl<'a> Reader<'a> {
     }
 
     // name "++"
-    #[tactic(auto, unfolding(crate::specs::Reader::increment_statement, crate::specs::Reader::and_then))]
+    #[tactic(auto, unfolding(crate::specs::Productions::increment_statement, crate::specs::Productions::and_then))]
     fn increment_statement(&self, tokens: &mut Cursor<'_>) -> Result<FirstStmt, FirstFault>
         ensures { Gives (reader.increment_statement self.now.variables self.now.names.now tokens.old) result tokens.new }
     {
@@ -155,7 +158,7 @@ impl<'a> Reader<'a> {
         Ok(FirstStmt::Increment(number))
     }
 
-    #[tactic(auto, unfolding(crate::specs::Reader::statement))]
+    #[tactic(auto, unfolding(crate::specs::Productions::statement))]
     fn statement(&self, tokens: &mut Cursor<'_>) -> Result<FirstStmt, FirstFault>
         ensures { Gives (reader.statement self.now.variables self.now.names.now tokens.old) result tokens.new }
     {
@@ -167,7 +170,7 @@ impl<'a> Reader<'a> {
     }
 
     // The statements with one more.
-    #[tactic(auto, unfolding(crate::specs::Reader::one_more, crate::specs::Reader::and_then))]
+    #[tactic(auto, unfolding(crate::specs::Productions::one_more, crate::specs::Productions::and_then))]
     fn one_more(
         &self,
         tokens: &mut Cursor<'_>,
@@ -194,7 +197,7 @@ impl<'a> Reader<'a> {
     }
 
     // "{" { Stmt ";" } "}"
-    #[tactic(auto, unfolding(crate::specs::Reader::block, crate::specs::Reader::and_then, crate::specs::Reader::where_true))]
+    #[tactic(auto, unfolding(crate::specs::Productions::block, crate::specs::Productions::and_then, crate::specs::Productions::where_true))]
     fn block(&self, tokens: &mut Cursor<'_>, has_int: bool) -> Result<List<FirstStmt>, FirstFault>
         ensures { Gives (reader.block self.now.variables self.now.names.now has_int tokens.old) result tokens.new }
     {
@@ -208,7 +211,7 @@ impl<'a> Reader<'a> {
     }
 
     // "func" name "(" "cur" "realm" ")" [ "int" ] "{" { Stmt ";" } "}"
-    #[tactic(auto, unfolding(crate::specs::Reader::function, crate::specs::Reader::and_then))]
+    #[tactic(auto, unfolding(crate::specs::Productions::function, crate::specs::Productions::and_then))]
     fn function(&self, tokens: &mut Cursor<'_>) -> Result<FirstFunc, FirstFault>
         ensures { Gives (reader.function self.now.variables self.now.names.now tokens.old) result tokens.new }
     {
@@ -226,7 +229,7 @@ impl<'a> Reader<'a> {
 }
 
 // What is declared, with one more function.
-#[tactic(auto, unfolding(crate::specs::Reader::one_more_function, crate::specs::Reader::and_then, crate::specs::Reader::where_true))]
+#[tactic(auto, unfolding(crate::specs::Productions::one_more_function, crate::specs::Productions::and_then, crate::specs::Productions::where_true))]
 fn one_more_function(
     alloc: Global,
     tokens: &mut Cursor<'_>,
@@ -269,7 +272,7 @@ fn functions(alloc: Global, tokens: &mut Cursor<'_>, names: Scope) -> Result<Dec
 }
 
 // The file that the tokens are.
-#[tactic(auto, unfolding(crate::specs::Reader::file_in, crate::specs::Reader::and_then))]
+#[tactic(auto, unfolding(crate::specs::Productions::file_in, crate::specs::Productions::and_then))]
 fn file(alloc: Global, tokens: &mut Cursor<'_>) -> Result<FirstFile, FirstFault>
     ensures file { IfOk result (λ file. reader.file_in tokens.old ≡ Some file) }
     ensures not_first { IsErrOf result FirstFault.NotFirst → reader.file_in tokens.old ≡ None }
@@ -289,7 +292,7 @@ fn file(alloc: Global, tokens: &mut Cursor<'_>) -> Result<FirstFile, FirstFault>
 const MAX_TEXT: usize = 1_048_576;
 
 // What `first_of` gives of the text.
-#[tactic(auto, unfolding(crate::specs::Reader::first_of))]
+#[tactic(auto, unfolding(crate::specs::Productions::first_of))]
 fn read(alloc: Global, text: &[u8]) -> Result<FirstFile, FirstFault>
     ensures file { IfOk result (λ file. first_of text.now ≡ Some file) }
     ensures not_first { IsErrOf result FirstFault.NotFirst → first_of text.now ≡ None }

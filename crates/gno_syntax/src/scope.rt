@@ -1,7 +1,7 @@
 // The names that a file declares.
 ghost use Rattle.std.specs.Prelude.{◌≡◌, [], ◌∷◌, ◌++◌, true, false, length, take, IfOk, IsErrOf};
 ghost use Rattle.gno_syntax.specs.Places.{place};
-ghost use Rattle.gno_syntax.specs.Reader as reader;
+ghost use Rattle.gno_syntax.specs.Productions as reader;
 
 use crate::FirstFault;
 use crate::names::is_name;
@@ -52,7 +52,7 @@ impl Scope {
     }
 
     /// The number of a variable, of which there are `count` before all other names.
-    #[tactic(auto, unfolding(crate::specs::Reader::number))]
+    #[tactic(auto, unfolding(crate::specs::Productions::number))]
     pub fn variable(&self, count: usize, name: &[u8]) -> Option<usize>
         ensures { result ≡ reader.number count self.now name.now }
     {

@@ -1,5 +1,5 @@
 use Rattle.std.proofs.Common.{◌≡◌, drop}
-use Rattle.gno_syntax.specs.Reader.{ends_well}
+use Rattle.gno_syntax.specs.Productions.{ends_well}
 use Rattle.gno_syntax.proofs.first.ends_well.Given as goal
 
 abbrev pub invariant-loop-at : goal.invariant-loop-at

@@ -1,5 +1,5 @@
 use Rattle.std.proofs.Common.{sym, refl, rules}
-use Rattle.gno_syntax.specs.Reader.{is_left, one_more_function, functions}
+use Rattle.gno_syntax.specs.Productions.{is_left, one_more_function, functions}
 use Rattle.gno_syntax.proofs.Repeats.{whole_end, whole_more, whole_fails}
 use Rattle.gno_syntax.proofs.Shorter.{one_more_function_takes}
 use Rattle.gno_syntax.proofs.first.functions.Goals as goal

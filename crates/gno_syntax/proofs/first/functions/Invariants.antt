@@ -1,5 +1,5 @@
 use Rattle.std.proofs.Common.{◌≡◌, length, []}
-use Rattle.gno_syntax.specs.Reader.{is_left, one_more_function, functions, repeats}
+use Rattle.gno_syntax.specs.Productions.{is_left, one_more_function, functions, repeats}
 use Rattle.gno_syntax.proofs.first.functions.Given as goal
 
 abbrev pub invariant-loop-alloc : goal.invariant-loop-alloc

@@ -1,5 +1,5 @@
 use Rattle.std.proofs.Common.{sym, codes, rules}
-use Rattle.gno_syntax.specs.Reader.{at_keyword, variable, variables}
+use Rattle.gno_syntax.specs.Productions.{at_keyword, variable, variables}
 use Rattle.gno_syntax.proofs.Repeats.{whole_end, whole_more, whole_fails}
 use Rattle.gno_syntax.proofs.Shorter.{variable_takes}
 use Rattle.gno_syntax.proofs.first.variables.Goals as goal

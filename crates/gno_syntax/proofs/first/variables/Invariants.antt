@@ -1,5 +1,5 @@
 use Rattle.std.proofs.Common.{◌≡◌, length, codes}
-use Rattle.gno_syntax.specs.Reader.{at_keyword, variable, variables, repeats}
+use Rattle.gno_syntax.specs.Productions.{at_keyword, variable, variables, repeats}
 use Rattle.gno_syntax.proofs.first.variables.Given as goal
 
 abbrev pub invariant-loop-alloc : goal.invariant-loop-alloc

@@ -1,6 +1,6 @@
 use Rattle.std.proofs.Common.{sym, ap, not, rules}
 use Rattle.gno_syntax.specs.declared.token.Token.TheVariants.{RightBrace}
-use Rattle.gno_syntax.specs.Reader.{at_symbol, one_more, statements}
+use Rattle.gno_syntax.specs.Productions.{at_symbol, one_more, statements}
 use Rattle.gno_syntax.proofs.Repeats.{whole_end, whole_more, whole_fails}
 use Rattle.gno_syntax.proofs.Shorter.{one_more_takes}
 use Rattle.gno_syntax.proofs.first.Reader.statements.Goals as goal

@@ -1,6 +1,6 @@
 use Rattle.std.proofs.Common.{◌≡◌, length, not}
 use Rattle.gno_syntax.specs.declared.token.Token.TheVariants.{RightBrace}
-use Rattle.gno_syntax.specs.Reader.{at_symbol, one_more, statements, repeats}
+use Rattle.gno_syntax.specs.Productions.{at_symbol, one_more, statements, repeats}
 use Rattle.gno_syntax.proofs.first.Reader.statements.Given as goal
 
 abbrev pub invariant-loop-tokens : goal.invariant-loop-tokens

@@ -1,7 +1,7 @@
 use Rattle.std.proofs.Common.{◌≡◌, ◌∙◌, ◌++◌, ◌∷◌, [], None, ap, sym, subst, true, length}
 use Rattle.gno_syntax.specs.Scope.{HasPlaces}
 use Rattle.gno_syntax.specs.Places.{place}
-use Rattle.gno_syntax.specs.Reader.{is_new}
+use Rattle.gno_syntax.specs.Productions.{is_new}
 use Rattle.gno_syntax.proofs.Places.{not_among}
 use Rattle.gno_syntax.proofs.Distinct.{new_is}
 use Rattle.gno_syntax.proofs.Tables.{has_places_push}
