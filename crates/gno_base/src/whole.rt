@@ -43,7 +43,8 @@ impl Whole {
 
     /// An `int`.
     pub fn int(value: i64) -> Whole
-        ensures { result ≡ record { kind = Int; value = value } }
+        ensures number { result ≡ record { kind = Int; value = value } }
+        ensures range { InRange Int result.value }
     {
         Whole {
             kind: Kind::Int,
@@ -77,7 +78,8 @@ impl Whole {
     /// The sum, wrapped to the kind of both.
     pub fn add(self, other: Whole) -> Whole
         requires { self.kind ≡ other.kind }
-        ensures { result ≡ sum self other }
+        ensures sum { result ≡ sum self other }
+        ensures range { InRange self.kind result.value }
     {
         wrap(self.kind, self.bits + other.bits)
     }
@@ -99,7 +101,8 @@ fn wrap(kind: Kind, value: i128) -> Whole
     requires kind { 0 < span kind }
     requires low { neg_ℤ (pos (2 ^ 100)) ≤ℤ value }
     requires high { value ≤ℤ pos (2 ^ 100) }
-    ensures { result ≡ record { kind = kind; value = wrapped kind value } }
+    ensures number { result ≡ record { kind = kind; value = wrapped kind value } }
+    ensures range { InRange kind result.value }
 {
     let least = kind.least();
     let bits = (value - least).rem_euclid(kind.span()) + least;

@@ -7,3 +7,9 @@ pub mod Sound
 pub mod Complete
 pub mod FormLaws
 pub mod Tables
+pub mod PieceSteps
+pub mod TokenSteps
+pub mod Fronts
+pub mod Scans
+pub mod PiecesLaw
+pub mod TokensLaw

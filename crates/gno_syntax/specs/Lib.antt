@@ -6,3 +6,6 @@ pub mod Places
 pub mod Productions
 pub mod Scope
 pub mod Cursor
+pub mod Pieces
+pub mod Tokens
+pub mod Scanning

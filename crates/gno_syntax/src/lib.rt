@@ -10,10 +10,11 @@ mod scope;
 mod token;
 mod tokens;
 mod tree;
+mod words;
 
 pub use fault::FirstFault;
 pub use first::{first_form, first_form_law};
 pub use names::is_name;
 pub use token::Token;
-pub use tokens::tokens_of;
+pub use tokens::{tokens_law, tokens_of};
 pub use tree::{FirstExpr, FirstFile, FirstFunc, FirstStmt};

@@ -1,36 +1,9 @@
 // Names, and the words that no file may declare.
-ghost use Rattle.std.specs.Prelude.{◌≡◌, ◌||◌, bytes_eq};
-ghost use Rattle.std.specs.List.{list_all, list_any};
+ghost use Rattle.std.specs.Prelude.{◌≡◌, ◌||◌};
+ghost use Rattle.std.specs.List.{list_all};
 ghost use Rattle.gno_syntax.specs.Names as names;
 
-/// The words that Go keeps for itself.
-const KEYWORDS: [&str; 25] = [
-    "break",
-    "case",
-    "chan",
-    "const",
-    "continue",
-    "default",
-    "defer",
-    "else",
-    "fallthrough",
-    "for",
-    "func",
-    "go",
-    "goto",
-    "if",
-    "import",
-    "interface",
-    "map",
-    "package",
-    "range",
-    "return",
-    "select",
-    "struct",
-    "switch",
-    "type",
-    "var",
-];
+use crate::words::{is_among, is_keyword};
 
 /// The predeclared names of Gno.
 const PREDECLARED: [&str; 33] = [
@@ -70,34 +43,16 @@ fn has_name_bytes(word: &[u8]) -> bool
     word.iter().all(|b| is_letter(*b) || is_digit(*b))
 }
 
-fn is_word(wanted: &str, word: &[u8]) -> bool
-    ensures { result ≡ bytes_eq word.now wanted.now }
-{
-    word == wanted.as_bytes()
-}
-
-fn is_among(words: &[&str], word: &[u8]) -> bool
-    ensures { result ≡ list_any (λ w. bytes_eq word.now w.now) words.now }
-{
-    words.iter().any(|wanted| is_word(wanted, word))
-}
-
-fn is_keyword(word: &[u8]) -> bool
-    ensures { result ≡ names.is_among names.keywords word.now }
-{
-    is_among(&KEYWORDS, word)
-}
-
 fn is_predeclared(word: &[u8]) -> bool
     ensures { result ≡ names.is_among names.predeclared word.now }
 {
-    is_among(&PREDECLARED, word)
+    is_among(PREDECLARED.as_slice(), word)
 }
 
 fn is_kept_back(word: &[u8]) -> bool
     ensures { result ≡ names.is_among names.kept_back word.now }
 {
-    is_among(&KEPT_BACK, word)
+    is_among(KEPT_BACK.as_slice(), word)
 }
 
 fn is_reserved(word: &[u8]) -> bool

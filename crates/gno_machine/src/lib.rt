@@ -1,0 +1,6 @@
+//! Runs the functions of files in the first form.
+#![tactic(auto)]
+
+mod run;
+
+pub use run::{FirstEnd, NoMemory, run_first};

@@ -1,0 +1,13 @@
+use Rattle.std.proofs.Common.{◌≡◌, ◌≤◌, ◌+◌, ◌-◌, length, drop}
+use Rattle.std.specs.List.{prefix_len}
+use Rattle.gno_syntax.specs.Pieces.{is_word_byte}
+use Rattle.gno_syntax.proofs.words.front_word.Given as goal
+
+abbrev pub invariant-loop-end : goal.invariant-loop-end
+invariant-loop-end l = record {
+  read : l.end + prefix_len is_word_byte (drop l.end l.text) ≡ prefix_len is_word_byte l.text;
+  within : l.end ≤ length l.text;
+}
+
+abbrev pub decreases-loop-end : goal.decreases-loop-end
+decreases-loop-end l = length l.text - l.end
