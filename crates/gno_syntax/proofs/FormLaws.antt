@@ -8,7 +8,7 @@ use Rattle.gno_syntax.specs.Names.{is_name, is_letter, is_digit, is_reserved, be
 use Rattle.gno_syntax.specs.Lawful.{IsLawful}
 use Rattle.gno_syntax.specs.Reading.{tokens_in}
 use Rattle.gno_syntax.specs.Form.{IsFirstForm}
-use Rattle.gno_syntax.specs.Productions.{first_of, file_of_tokens}
+use Rattle.gno_syntax.specs.Reader.{first_of, file_of_tokens}
 use Rattle.gno_syntax.proofs.Places.{both_true}
 use Rattle.gno_syntax.proofs.Sound.{file_is}
 use Rattle.gno_syntax.proofs.Complete.{file_at}

@@ -4,6 +4,7 @@ pub mod Reading
 pub mod Form
 pub mod Places
 pub mod Productions
+pub mod Reader
 pub mod Scope
 pub mod Cursor
 pub mod Pieces

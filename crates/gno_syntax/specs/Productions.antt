@@ -1,5 +1,5 @@
--- The reader of the first form, as functions on lists of tokens.
-use Rattle.std.specs.Prelude.{ℕ, zero, suc, List, [], ◌∷◌, ◌++◌, length, take, Bool, true, false, not, ◌&&◌, if◌then◌else◌, Option, Some, None, nat_lt, nat_le, codes, bytes_eq}
+-- The productions of the first form, as functions on lists of tokens that read them at the front.
+use Rattle.std.specs.Prelude.{ℕ, zero, suc, List, [], ◌∷◌, ◌++◌, length, take, Bool, true, false, not, ◌&&◌, if◌then◌else◌, Option, Some, None, nat_lt, codes, bytes_eq}
 use Rattle.gno_syntax.specs.declared.token.Token.{Token}
 use Rattle.gno_syntax.specs.declared.token.Token.TheVariants.{Word, Increment, LeftParen, RightParen, LeftBrace, RightBrace, Semicolon}
 use Rattle.gno_syntax.specs.declared.tree.FirstFile.{FirstFile}
@@ -11,7 +11,6 @@ use Rattle.gno_syntax.specs.declared.tree.FirstExpr.TheVariants as expr
 use Rattle.gno_syntax.specs.declared.declared.Declared.{Declared}
 use Rattle.gno_syntax.specs.Names.{is_among, is_name}
 use Rattle.gno_syntax.specs.Places.{place}
-use Rattle.gno_syntax.specs.Reading.{tokens_in}
 
 -- what is read at the front of a list of tokens, and the tokens behind it
 abbrev pub Found : Type 0 → Type 0
@@ -198,11 +197,3 @@ file_in tokens = value_of (
     and_then (package_clause tokens) (λ name a.
     and_then (variables a) (λ names b.
     and_then (functions (length names) (record { names = names; functions = [] }) b) (λ declared rest. Some (file_of name (length names) declared, rest)))))
-
-abbrev pub file_of_tokens : Option (List Token) → Option FirstFile
-file_of_tokens None = None
-file_of_tokens (Some tokens) = file_in tokens
-
--- the file that a text is, in the first form
-unfoldable pub first_of : List ℕ → Option FirstFile
-first_of text = if nat_le (length text) 1048576 then file_of_tokens (tokens_in text) else None

@@ -4,7 +4,7 @@ ghost use Rattle.gno_syntax.specs.Cursor.{Gives};
 ghost use Rattle.gno_syntax.specs.Form.{IsFirstForm};
 ghost use Rattle.gno_syntax.specs.Lawful.{IsLawful};
 ghost use Rattle.gno_syntax.specs.Productions as reader;
-ghost use Rattle.gno_syntax.specs.Productions.{first_of};
+ghost use Rattle.gno_syntax.specs.Reader.{first_of};
 ghost use Rattle.gno_syntax.specs.declared.tree.FirstFile.{FirstFile};
 
 #[cfg(test)]
@@ -292,7 +292,7 @@ fn file(alloc: Global, tokens: &mut Cursor<'_>) -> Result<FirstFile, FirstFault>
 const MAX_TEXT: usize = 1_048_576;
 
 // What `first_of` gives of the text.
-#[tactic(auto, unfolding(crate::specs::Productions::first_of))]
+#[tactic(auto, unfolding(crate::specs::Reader::first_of))]
 fn read(alloc: Global, text: &[u8]) -> Result<FirstFile, FirstFault>
     ensures file { IfOk result (λ file. first_of text.now ≡ Some file) }
     ensures not_first { IsErrOf result FirstFault.NotFirst → first_of text.now ≡ None }

@@ -1,5 +1,5 @@
 use Rattle.std.proofs.Common.{◌≡◌, rules, IsErrOf, None}
-use Rattle.gno_syntax.specs.Productions.{first_of}
+use Rattle.gno_syntax.specs.Reader.{first_of}
 use Rattle.gno_syntax.specs.declared.fault.FirstFault.TheVariants.{NotFirst}
 use Rattle.gno_syntax.proofs.FormLaws.{first_is, no_file, lawful_of}
 use Rattle.gno_syntax.proofs.first.first_form.Goals as goal
