@@ -76,7 +76,10 @@ const TEXTS: [(&str, bool); 37] = [
 fn texts_are_told_apart(rt: HostRuntime) -> Result<(), Fail> {
     for (text, is_first) in TEXTS {
         let found = first_form(rt.alloc(), text.as_bytes());
-        assert!(rt; !matches!(found, Err(FirstFault::NoMemory)), "at {text:?}");
+        assert!(rt;
+            !matches!(found, Err(FirstFault::NoMemory)),
+            "memory is wanting at {text:?}"
+        );
         assert!(rt; found.is_ok() == is_first, "at {text:?}");
     }
     Ok(())
