@@ -1,3 +1,12 @@
+pub mod Repeats
+pub mod Places
+pub mod Distinct
+pub mod Pieces
+pub mod Shorter
+pub mod Sound
+pub mod Complete
+pub mod FormLaws
+pub mod Tables
 pub mod PieceSteps
 pub mod TokenSteps
 pub mod Fronts

@@ -1,6 +1,12 @@
 pub mod Names
 pub mod Lawful
+pub mod Reading
+pub mod Form
+pub mod Places
+pub mod Productions
+pub mod Reader
+pub mod Scope
+pub mod Cursor
 pub mod Pieces
 pub mod Tokens
-pub mod Reading
 pub mod Scanning

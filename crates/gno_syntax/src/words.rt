@@ -57,7 +57,7 @@ pub fn front_word(text: &[u8]) -> (&[u8], &[u8])
     text.split_at(end)
 }
 
-fn is_among(words: &[&str], word: &[u8]) -> bool
+pub fn is_among(words: &[&str], word: &[u8]) -> bool
     ensures { result ≡ list_any (λ it. bytes_eq word.now it.now) words.now }
 {
     words.iter().any(|it| word == it.as_bytes())
