@@ -1,0 +1,55 @@
+-- A session: the items of a script, one after another, on one memory.
+use Rattle.std.specs.Prelude.{ℕ, ◌+◌, List, [], ◌∷◌, ◌++◌, Bool, true, false, ◌&&◌}
+use Rattle.gno_script.specs.declared.item.Item.{Item}
+use Rattle.gno_script.specs.declared.item.Item.TheVariants.{Add, Call, Reload}
+use Rattle.gno_items.specs.declared.memory.Package.{Package}
+use Rattle.gno_items.specs.declared.reply.ItemReply.{ItemReply}
+use Rattle.gno_items.specs.declared.reply.End.{End}
+use Rattle.gno_items.specs.declared.reply.End.TheVariants.{Ok, Refused, Spent}
+use Rattle.gno_items.specs.Adding.{added}
+use Rattle.gno_items.specs.Calling.{called}
+use Rattle.gno_items.specs.Memory.{with_package, with_new_values}
+use Rattle.gno_items.specs.Text.{item_text}
+
+-- the item ended in results
+abbrev pub is_ok : End → Bool
+is_ok (Ok results) = true
+is_ok (Refused refusal) = false
+is_ok Spent = false
+
+-- what an item says, whether it ended in results, the packages after it, and how many items were numbered so far
+pub record Replied : Type 0 where
+  pub text : List ℕ
+  pub good : Bool
+  pub memory : List Package
+  pub done : ℕ
+
+-- a numbered item with its reply, and the packages after it
+abbrev pub shown : ℕ → Item → ItemReply → List Package → Replied
+shown done item reply memory = record { text = item_text (done + 1) item reply; good = is_ok reply.end; memory = memory; done = done + 1 }
+
+-- An item that does not end in results leaves the packages as they were. A `reload` changes nothing and says nothing.
+abbrev pub replied : List Package → ℕ → Item → Replied
+replied memory done (Add budget caller path file) =
+    let end = added memory budget path file in
+    shown done (Add budget caller path file) end.reply (with_package memory end.held)
+replied memory done (Call budget caller path function) =
+    let end = called memory budget path function in
+    shown done (Call budget caller path function) end.reply (with_new_values memory path end.values)
+replied memory done Reload = record { text = []; good = true; memory = memory; done = done }
+
+-- what all items say, whether all ended in results, and the packages at the end
+pub record Session : Type 0 where
+  pub text : List ℕ
+  pub good : Bool
+  pub memory : List Package
+
+abbrev pub session_from : List Package → ℕ → List Item → Session
+session_from memory done [] = record { text = []; good = true; memory = memory }
+session_from memory done (item ∷ items) =
+    let reply = replied memory done item in
+    let rest = session_from reply.memory reply.done items in
+    record { text = reply.text ++ rest.text; good = reply.good && rest.good; memory = rest.memory }
+
+abbrev pub session : List Package → List Item → Session
+session memory items = session_from memory 0 items

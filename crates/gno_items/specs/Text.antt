@@ -1,0 +1,55 @@
+-- The text of an item.
+use Rattle.std.specs.Prelude.{ℕ, List, [], ◌∷◌, ◌++◌, Option, Some, None, if◌then◌else◌, nat_eq, length, codes}
+use Rattle.std.specs.List.{flat_map}
+use Rattle.std.specs.Fmt.{decimal}
+use Rattle.gno_script.specs.declared.item.Item.{Item}
+use Rattle.gno_script.specs.declared.item.Item.TheVariants.{Add, Call, Reload}
+use Rattle.gno_items.specs.declared.reply.ItemReply.{ItemReply}
+use Rattle.gno_items.specs.declared.reply.ResultText.{ResultText}
+use Rattle.gno_items.specs.declared.reply.End.{End}
+use Rattle.gno_items.specs.declared.reply.End.TheVariants.{Ok, Refused, Spent}
+
+-- the word of an item that is numbered
+abbrev pub word_of : Item → Option (List ℕ)
+word_of (Add budget caller path file) = Some (codes "add")
+word_of (Call budget caller path function) = Some (codes "call")
+word_of Reload = None
+
+-- what a refusal's code says
+abbrev pub message : ℕ → List ℕ
+message code = if nat_eq code 101 then codes "bad path"
+    else (if nat_eq code 102 then codes "path taken"
+    else (if nat_eq code 104 then codes "package unknown"
+    else (if nat_eq code 105 then codes "function unknown or not of this use" else codes "not built yet")))
+
+-- a result, in parentheses behind a space
+abbrev pub result_text : ResultText → List ℕ
+result_text result = codes " (" ++ (result.value ++ (codes " " ++ (result.of ++ codes ")")))
+
+abbrev pub outcome_line : End → List ℕ
+outcome_line (Ok results) = codes "ok" ++ flat_map result_text results
+outcome_line (Refused refusal) = codes "refused " ++ (decimal refusal.code ++ (codes " " ++ message refusal.code))
+outcome_line Spent = codes "spent"
+
+-- the bytes that were printed, behind their number
+abbrev pub printed_text : List ℕ → List ℕ
+printed_text [] = []
+printed_text (b ∷ bs) = codes "out " ++ (decimal (length (b ∷ bs)) ++ (codes "\n" ++ ((b ∷ bs) ++ codes "\n")))
+
+abbrev pub heading : ℕ → List ℕ → List ℕ
+heading number word = codes "item " ++ (decimal number ++ (codes " " ++ (word ++ codes "\n")))
+
+-- the outcome line's end, and the line of the cycles that were charged
+abbrev pub cycles_line : ℕ → List ℕ
+cycles_line used = codes "\ncycles " ++ (decimal used ++ codes "\n")
+
+-- the lines of a numbered item
+abbrev pub numbered_text : ℕ → List ℕ → ItemReply → List ℕ
+numbered_text number word reply = heading number word ++ (printed_text reply.printed ++ (outcome_line reply.end ++ cycles_line reply.used))
+
+abbrev pub text_of_word : ℕ → Option (List ℕ) → ItemReply → List ℕ
+text_of_word number None reply = []
+text_of_word number (Some word) reply = numbered_text number word reply
+
+abbrev pub item_text : ℕ → Item → ItemReply → List ℕ
+item_text number item reply = text_of_word number (word_of item) reply

@@ -1,0 +1,68 @@
+// What an item answers.
+ghost use Rattle.std.specs.Prelude.{◌≡◌};
+ghost use Rattle.gno_items.specs.Replies.{ended, refusal, spent};
+
+use gno_base::{Bytes, List};
+use std::alloc::Global;
+
+/// A result's printed value and its type's text.
+#[derive(Debug, Drop)]
+pub struct ResultText {
+    pub value: Bytes,
+    pub of: Bytes,
+}
+
+/// Why an item was refused before its run.
+#[derive(Clone, Copy, Debug, PartialEq, Eq)]
+pub struct Refusal {
+    pub code: u8,
+}
+
+/// How an item ended.
+#[derive(Debug, Drop)]
+pub enum End {
+    /// With these results.
+    Ok(List<ResultText>),
+    Refused(Refusal),
+    /// A charge did not fit what was left of the budget.
+    Spent,
+}
+
+/// The reply to an item: its end, the bytes that it printed, and the cycles that it was charged.
+#[derive(Debug, Drop)]
+pub struct ItemReply {
+    pub end: End,
+    pub printed: Bytes,
+    pub used: u64,
+}
+
+pub(crate) fn refused_reply(alloc: Global, code: u8) -> ItemReply
+    ensures { result ≡ refusal code }
+{
+    ItemReply {
+        end: End::Refused(Refusal { code }),
+        printed: Bytes::new(alloc),
+        used: 0,
+    }
+}
+
+pub(crate) fn spent_reply(alloc: Global, used: u64) -> ItemReply
+    ensures { result ≡ spent used }
+{
+    ItemReply {
+        end: End::Spent,
+        printed: Bytes::new(alloc),
+        used,
+    }
+}
+
+// The reply to an item that ended without a result.
+pub(crate) fn ended_reply(alloc: Global, used: u64) -> ItemReply
+    ensures { result ≡ ended used }
+{
+    ItemReply {
+        end: End::Ok(List::<ResultText>::new(alloc)),
+        printed: Bytes::new(alloc),
+        used,
+    }
+}

@@ -1,0 +1,153 @@
+// The text of an item.
+ghost use Rattle.std.specs.Prelude.{◌≡◌, ◌++◌, IfOk, OnOk, codes};
+ghost use Rattle.std.specs.List.{flat_map};
+ghost use Rattle.std.specs.Option.{option_map};
+ghost use Rattle.std.specs.Fmt.{decimal};
+ghost use Rattle.gno_items.specs.Text.{cycles_line, heading, item_text, message, numbered_text, outcome_line, printed_text, result_text, word_of};
+
+use crate::{End, ItemReply, NoMemory, ResultText};
+use gno_base::Bytes;
+use gno_script::Item;
+use std::alloc::{AllocError, Global};
+
+/// The text that a session shows of an item: its number and kind, the bytes that it printed, how it ended, and its cycles.
+/// A `reload` has none.
+pub fn item_text(
+    alloc: Global,
+    number: u64,
+    item: &Item,
+    reply: &ItemReply,
+) -> Result<Bytes, NoMemory>
+    ensures { IfOk result (λ text. text ≡ item_text number item.now reply.now) }
+{
+    let mut text = Bytes::new(alloc);
+    let Some(word) = word_of(item) else {
+        return Ok(text);
+    };
+    match push_item(alloc, &mut text, number, word, reply) {
+        Ok(()) => Ok(text),
+        Err(_) => Err(NoMemory),
+    }
+}
+
+fn word_of(item: &Item) -> Option<&'static str>
+    ensures { option_map (λ word. word.now) result ≡ word_of item.now }
+{
+    match item {
+        Item::Add { .. } => Some("add"),
+        Item::Call { .. } => Some("call"),
+        Item::Reload => None,
+    }
+}
+
+// Adds the lines of a numbered item.
+fn push_item(
+    alloc: Global,
+    text: &mut Bytes,
+    number: u64,
+    word: &str,
+    reply: &ItemReply,
+) -> Result<(), AllocError>
+    ensures { OnOk result (text.new ≡ text.old ++ numbered_text number word.now reply.now) }
+{
+    push_heading(alloc, text, number, word)?;
+    push_printed(alloc, text, reply.printed.as_slice())?;
+    push_outcome(alloc, text, &reply.end)?;
+    push_cycles(alloc, text, reply.used)
+}
+
+fn push_heading(alloc: Global, text: &mut Bytes, number: u64, word: &str) -> Result<(), AllocError>
+    ensures { OnOk result (text.new ≡ text.old ++ heading number word.now) }
+{
+    push_text(text, "item ")?;
+    push_number(alloc, text, number)?;
+    push_text(text, " ")?;
+    push_text(text, word)?;
+    push_text(text, "\n")
+}
+
+fn push_cycles(alloc: Global, text: &mut Bytes, used: u64) -> Result<(), AllocError>
+    ensures { OnOk result (text.new ≡ text.old ++ cycles_line used) }
+{
+    push_text(text, "\ncycles ")?;
+    push_number(alloc, text, used)?;
+    push_text(text, "\n")
+}
+
+fn push_text(text: &mut Bytes, more: &str) -> Result<(), AllocError>
+    ensures { OnOk result (text.new ≡ text.old ++ more.now) }
+{
+    text.extend_from_slice(more.as_bytes())
+}
+
+fn push_number(alloc: Global, text: &mut Bytes, number: u64) -> Result<(), AllocError>
+    ensures { OnOk result (text.new ≡ text.old ++ decimal number) }
+{
+    let digits = number.to_string(alloc)?;
+    text.extend_from_slice(digits.as_bytes())
+}
+
+// Adds what an item printed, behind its length.
+fn push_printed(alloc: Global, text: &mut Bytes, printed: &[u8]) -> Result<(), AllocError>
+    ensures { OnOk result (text.new ≡ text.old ++ printed_text printed.now) }
+{
+    if printed.is_empty() {
+        return Ok(());
+    }
+    push_text(text, "out ")?;
+    push_number(alloc, text, printed.len() as u64)?;
+    push_text(text, "\n")?;
+    text.extend_from_slice(printed)?;
+    push_text(text, "\n")
+}
+
+fn push_outcome(alloc: Global, text: &mut Bytes, end: &End) -> Result<(), AllocError>
+    ensures { OnOk result (text.new ≡ text.old ++ outcome_line end.now) }
+{
+    match end {
+        End::Ok(results) => push_results(text, results.as_slice()),
+        End::Refused(refusal) => push_refusal(alloc, text, refusal.code),
+        End::Spent => push_text(text, "spent"),
+    }
+}
+
+fn push_results(text: &mut Bytes, results: &[ResultText]) -> Result<(), AllocError>
+    ensures { OnOk result (text.new ≡ text.old ++ (codes "ok" ++ flat_map result_text results.now)) }
+{
+    push_text(text, "ok")?;
+    for one in results {
+        push_result(text, one)?;
+    }
+    Ok(())
+}
+
+fn push_result(text: &mut Bytes, one: &ResultText) -> Result<(), AllocError>
+    ensures { OnOk result (text.new ≡ text.old ++ result_text one.now) }
+{
+    push_text(text, " (")?;
+    text.extend_from_slice(one.value.as_slice())?;
+    push_text(text, " ")?;
+    text.extend_from_slice(one.of.as_slice())?;
+    push_text(text, ")")
+}
+
+fn push_refusal(alloc: Global, text: &mut Bytes, code: u8) -> Result<(), AllocError>
+    ensures { OnOk result (text.new ≡ text.old ++ (codes "refused " ++ (decimal code ++ (codes " " ++ message code)))) }
+{
+    push_text(text, "refused ")?;
+    push_number(alloc, text, u64::from(code))?;
+    push_text(text, " ")?;
+    push_text(text, message(code))
+}
+
+fn message(code: u8) -> &'static str
+    ensures { result.now ≡ message code }
+{
+    match code {
+        101 => "bad path",
+        102 => "path taken",
+        104 => "package unknown",
+        105 => "function unknown or not of this use",
+        _ => "not built yet",
+    }
+}
