@@ -1,0 +1,6 @@
+pub mod Zeros
+pub mod AddedRows
+pub mod ChangedRows
+pub mod Lookups
+pub mod OneMemory
+pub mod RowsSoFar

@@ -1,0 +1,232 @@
+// Loading the packages that a table stores.
+ghost use Rattle.std.specs.Prelude.{◌≡◌, ◌≤◌, true, length, List, Option, IfOk, IfSome, IsErrOf, Some};
+ghost use Rattle.gno_base.specs.Paths.{kind_of};
+ghost use Rattle.gno_base.specs.declared.path.PathKind.TheVariants.{Realm};
+ghost use Rattle.gno_machine.specs.Ints.{AreInts};
+ghost use Rattle.gno_port.specs.Causes.{Rose};
+ghost use Rattle.gno_port.specs.Tables.{Table};
+ghost use Rattle.gno_items.specs.Well.{has_no_zero, IsWell, IsWellPackage};
+ghost use Rattle.gno_table.specs.Rows.{LeaveSame, all_rows};
+ghost use Rattle.gno_table.specs.FirstFormat.{IsFirst, Reads, Stands};
+ghost use Rattle.gno_items.specs.declared.memory.Package.{Package};
+
+use crate::reading::read_rows;
+use crate::rows::{put_format, put_package, variable_key};
+use crate::sources::{Source, sources_of, word_at};
+use gno_base::{Bytes, List, Path, PathFault, PathKind, Whole};
+use gno_items::{Package, Packages};
+use gno_port::{Batch, Change, Changes, KeepFault, Keeper};
+use gno_syntax::{FirstFault, FirstFile, first_form};
+use std::alloc::{AllocError, Global};
+
+/// Why the packages of a table were not loaded.
+#[derive(Clone, Copy, Debug, PartialEq, Eq)]
+pub enum LoadFault {
+    Failed,
+    /// The table is not of the first format.
+    Damaged,
+    NoMemory,
+}
+
+/// There is no memory.
+#[derive(Clone, Copy, Debug, PartialEq, Eq)]
+struct NoMemory;
+
+/// Reads all rows of the open table, and gives the packages that they store. The tables stay as they are.
+pub fn load<K: Keeper>(alloc: Global, keeper: &mut K) -> Result<Packages, LoadFault>
+    requires { K.is_open keeper.old ≡ true }
+    ensures stands { IfOk result (λ packages. Stands (K.tables keeper.old (K.open_name keeper.old)) packages) }
+    ensures tables { K.tables keeper.new ≡ K.tables keeper.old }
+    ensures open { (K.is_open keeper.new ≡ true) × (K.open_name keeper.new ≡ K.open_name keeper.old) }
+    ensures cause { IsErrOf result LoadFault.Failed → Rose (K.faults keeper.old) (K.faults keeper.new) }
+    ensures later { K.faults keeper.old ≤ K.faults keeper.new }
+{
+    let rows = match read_rows(alloc, keeper) {
+        Ok(rows) => rows,
+        Err(KeepFault::Failed) => return Err(LoadFault::Failed),
+        Err(KeepFault::NoMemory) => return Err(LoadFault::NoMemory),
+    };
+    match packages_of(alloc, rows.as_slice()) {
+        Ok(Some(packages)) => Ok(packages),
+        Ok(None) => Err(LoadFault::Damaged),
+        Err(NoMemory) => Err(LoadFault::NoMemory),
+    }
+}
+
+/// A table of the first format has one memory.
+pub fn one_memory()
+    ensures { (table : Table) (memory other : List Package) → IsFirst table memory → IsFirst table other → memory ≡ other }
+{}
+
+// The packages whose rows these are.
+fn packages_of(alloc: Global, rows: &[Change]) -> Result<Option<Packages>, NoMemory>
+    ensures stands { IfOk result (λ found. IfSome found (λ packages. (told : Option Table) → Reads told rows.now → Stands told packages)) }
+{
+    if rows.is_empty() {
+        return Ok(Some(Packages::new(alloc)));
+    }
+    let Some(packages) = guess(alloc, rows)? else {
+        return Ok(None);
+    };
+    if packages.len() >= MOST_PACKAGES {
+        return Err(NoMemory);
+    }
+    let Ok(batch) = all_rows(alloc, packages.as_slice()) else {
+        return Err(NoMemory);
+    };
+    if are_same(batch.changes.as_slice(), rows) {
+        Ok(Some(packages))
+    } else {
+        Ok(None)
+    }
+}
+
+// All rows of the packages, in the order of their keys.
+fn all_rows(alloc: Global, packages: &[Package]) -> Result<Batch, AllocError>
+    requires { IsWell packages.now }
+    ensures { IfOk result (λ batch. LeaveSame batch.changes (all_rows packages.now)) }
+{
+    let mut changes = Changes::new(alloc);
+    put_format(alloc, &mut changes)?;
+    for (order, held) in packages.iter().enumerate() {
+        put_package(alloc, &mut changes, order as u64, held)?;
+    }
+    changes.into_batch(alloc)
+}
+
+fn are_same(left: &[Change], right: &[Change]) -> bool
+    ensures { result ≡ true → left.now ≡ right.now }
+{
+    if left.len() != right.len() {
+        return false;
+    }
+    for (at, change) in left.iter().enumerate() {
+        if !is_same(change, &right[at]) {
+            return false;
+        }
+    }
+    true
+}
+
+fn is_same(left: &Change, right: &Change) -> bool
+    ensures { result ≡ true → left.now ≡ right.now }
+{
+    if left.key.as_slice() != right.key.as_slice() {
+        return false;
+    }
+    match (&left.value, &right.value) {
+        (Some(a), Some(b)) => a.as_slice() == b.as_slice(),
+        (None, None) => true,
+        _ => false,
+    }
+}
+
+// Packages that may be those of the rows, by the order of their sources.
+#[tactic(auto, using(crate::proofs::AddedRows::well_append))]
+fn guess(alloc: Global, rows: &[Change]) -> Result<Option<Packages>, NoMemory>
+    ensures { IfOk result (λ found. IfSome found (λ packages. IsWell packages)) }
+{
+    let Ok(sources) = sources_of(alloc, rows) else {
+        return Err(NoMemory);
+    };
+    let mut packages = Packages::new(alloc);
+    for (_order, source) in sources {
+        let Some(held) = package_of(alloc, rows, source)? else {
+            return Ok(None);
+        };
+        if packages.find(held.path.as_slice()).is_some() {
+            return Ok(None);
+        }
+        if packages.push(held).is_err() {
+            return Err(NoMemory);
+        }
+    }
+    Ok(Some(packages))
+}
+
+// The package of a source, with the values that its variables' rows say.
+fn package_of(alloc: Global, rows: &[Change], source: Source) -> Result<Option<Package>, NoMemory>
+    ensures { IfOk result (λ found. IfSome found (λ held. IsWellPackage held)) }
+{
+    let Source {
+        order: _,
+        path,
+        file,
+    } = source;
+    if !is_realm(alloc, path.as_slice())? || !has_no_zero(file.name.as_slice()) {
+        return Ok(None);
+    }
+    let tree = match first_form(alloc, file.text.as_slice()) {
+        Ok(tree) => tree,
+        Err(FirstFault::NotFirst) => return Ok(None),
+        Err(FirstFault::NoMemory) => return Err(NoMemory),
+    };
+    let Ok(found) = values_of(alloc, rows, path.as_slice(), tree.variables.as_slice()) else {
+        return Err(NoMemory);
+    };
+    let Some(values) = found else {
+        return Ok(None);
+    };
+    Ok(Some(Package {
+        path,
+        source: file,
+        file: tree,
+        values,
+    }))
+}
+
+fn is_realm(alloc: Global, path: &[u8]) -> Result<bool, NoMemory>
+    ensures { IfOk result (λ realm. realm ≡ true → kind_of path.now ≡ Some Realm) }
+{
+    match Path::read(alloc, path) {
+        Ok(
+            Path {
+                kind: PathKind::Realm,
+                ..
+            },
+        ) => Ok(true),
+        Ok(_) | Err(PathFault::BadPath) => Ok(false),
+        Err(PathFault::NoMemory) => Err(NoMemory),
+    }
+}
+
+fn has_no_zero(name: &[u8]) -> bool
+    ensures { result ≡ has_no_zero name.now }
+{
+    name.iter().all(|b| *b > 0)
+}
+
+// The values of a package's variables, where each has a row of 8 bytes.
+#[tactic(auto, using(crate::proofs::Zeros::ints_push))]
+fn values_of(
+    alloc: Global,
+    rows: &[Change],
+    path: &[u8],
+    names: &[Bytes],
+) -> Result<Option<List<Whole>>, AllocError>
+    ensures count { IfOk result (λ found. IfSome found (λ values. length values ≡ length names.now)) }
+    ensures ints { IfOk result (λ found. IfSome found (λ values. AreInts values)) }
+{
+    let mut values = List::<Whole>::new(alloc);
+    for name in names {
+        let key = variable_key(alloc, path, name.as_slice())?;
+        let Some(word) = word_of(rows, key.as_slice()) else {
+            return Ok(None);
+        };
+        values.push(Whole::int(word.cast_signed()))?;
+    }
+    Ok(Some(values))
+}
+
+fn word_of(rows: &[Change], key: &[u8]) -> Option<u64> {
+    let at = rows
+        .binary_search_by(|row| row.key.as_slice().cmp(key))
+        .ok()?;
+    let value = rows.get(at)?.value.as_ref()?;
+    match word_at(value.as_slice()) {
+        Some((word, [])) => Some(word),
+        _ => None,
+    }
+}
+
+const MOST_PACKAGES: usize = 1 << 62;
