@@ -1,0 +1,5 @@
+pub mod Fronts
+pub mod Memories
+pub mod Named
+pub mod Running
+pub mod ThreeWords

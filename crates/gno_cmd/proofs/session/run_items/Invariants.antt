@@ -1,0 +1,21 @@
+use Rattle.std.proofs.Common.{◌≡◌, ◌≢◌, ◌≤◌, ℕ, List, drop}
+use Rattle.std.specs.Prelude.{IsSome, true}
+use Rattle.gno_port.specs.Streams.{Gained}
+use Rattle.gno_items.specs.Session.{session}
+use Rattle.gno_table.specs.FirstFormat.{Stands}
+use Rattle.gno_cmd.specs.Performing.{AreNamed}
+use Rattle.gno_cmd.proofs.Running.{IsRunning}
+use Rattle.gno_cmd.proofs.session.run_items.Given as goal
+
+abbrev pub invariant-loop-item : goal.invariant-loop-item
+invariant-loop-item g l = record {
+  run : IsSome (g.K.Keeper.tables l.fn.keeper l.name) → (said : List ℕ) × Gained (g.O.Sink.holds l.fn.out) (g.O.Sink.holds l.out) said × IsRunning said l.good l.packages l.done (drop l.item-index l.items) (session l.fn.packages l.items);
+  count : l.done ≤ l.item-index;
+  is_open : g.K.Keeper.is_open l.keeper ≡ true;
+  name : g.K.Keeper.open_name l.keeper ≡ l.name;
+  stands : Stands (g.K.Keeper.tables l.keeper l.name) l.packages;
+  told : IsSome (g.K.Keeper.tables l.fn.keeper l.name) → IsSome (g.K.Keeper.tables l.keeper l.name);
+  others : (other : List ℕ) → other ≢ l.name → g.K.Keeper.tables l.keeper other ≡ g.K.Keeper.tables l.fn.keeper other;
+  named : AreNamed (drop l.item-index l.items);
+  later : g.K.Keeper.faults l.fn.keeper ≤ g.K.Keeper.faults l.keeper;
+}

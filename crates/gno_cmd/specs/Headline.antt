@@ -1,0 +1,102 @@
+-- What a command is: a script, run over a table of a store.
+use Rattle.std.specs.Prelude.{ℕ, ◌≡◌, ◌≢◌, List, Option, Some, None, Bool, if◌then◌else◌, take}
+use Rattle.gno_port.specs.Streams.{Gained, Lost, IsAtEnd}
+use Rattle.gno_port.specs.Tables.{Table}
+use Rattle.gno_script.specs.declared.item.Item.{Item}
+use Rattle.gno_script.specs.Lines.{lines_of}
+use Rattle.gno_script.specs.Script.{IsScript}
+use Rattle.gno_script.specs.Faults.{IsFirstFault}
+use Rattle.gno_items.specs.declared.memory.Package.{Package}
+use Rattle.gno_items.specs.Session.{session}
+use Rattle.gno_table.specs.FirstFormat.{IsFirst}
+use Rattle.gno_cmd.specs.declared.status.Status.{Status}
+use Rattle.gno_cmd.specs.declared.status.Status.TheVariants.{Done, SomeFailed, Usage, ReadFault, WriteFault, StoreFault, Damaged, NoMemory, ScriptFault, Limit}
+use Rattle.gno_cmd.specs.Usage.{AreReplayWords}
+
+-- the session came to its end
+abbrev pub IsOver : Status → Type 0
+IsOver Done = Unit {0}
+IsOver SomeFailed = Unit {0}
+IsOver (Usage word) = ⊥
+IsOver ReadFault = ⊥
+IsOver WriteFault = ⊥
+IsOver StoreFault = ⊥
+IsOver (Damaged key) = ⊥
+IsOver NoMemory = ⊥
+IsOver (ScriptFault line) = ⊥
+IsOver (Limit which) = ⊥
+
+-- all items ended in results, or some did not
+abbrev pub end_status : Bool → Status
+end_status good = if good then Done else SomeFailed
+
+-- the table is told and of the first format, with this memory
+abbrev pub HasMemory : Option Table → List Package → Type 0
+HasMemory None memory = ⊥
+HasMemory (Some table) memory = IsFirst table memory
+
+-- The table was of the first format, with a memory. What was printed, the status, and the memory of the table after it
+-- are those of the session of the items that begins with that memory.
+pub record Continues (table : Table) (items : List Item) (held held' : Option (List ℕ)) (table' : Option Table) (status : Status) : Type 0 where
+  pub memory : List Package
+  pub was : IsFirst table memory
+  pub prints : Gained held held' (session memory items).text
+  pub status_is : status ≡ end_status (session memory items).good
+  pub becomes : HasMemory table' (session memory items).memory
+
+-- All of the input was read, and it is a script.
+pub record ReadsScript (left left' : Option (List ℕ)) (items : List Item) : Type 0 where
+  pub text : List ℕ
+  pub reads : Lost left left' text
+  pub at_end : IsAtEnd left'
+  pub script : IsScript (lines_of text) items
+
+-- All of the input was read, and this is its first faulty line.
+pub record ReadsFault (left left' : Option (List ℕ)) (line : ℕ) : Type 0 where
+  pub text : List ℕ
+  pub reads : Lost left left' text
+  pub at_end : IsAtEnd left'
+  pub fault : IsFirstFault (lines_of text) line
+
+-- All of the input is a script. Where the table of that name is told, the script went on with it; no other table changed.
+pub record ReplaysAt (name : List ℕ) (left left' held held' : Option (List ℕ)) (tables tables' : List ℕ → Option Table) (status : Status) : Type 0 where
+  pub items : List Item
+  pub reads : ReadsScript left left' items
+  pub outcome : (table : Table) → tables name ≡ Some table → Continues table items held held' (tables' name) status
+  pub others : (other : List ℕ) → other ≢ name → tables' other ≡ tables other
+
+-- the words name the table
+pub record Replays (words : List (List ℕ)) (left left' held held' : Option (List ℕ)) (tables tables' : List ℕ → Option Table) (status : Status) : Type 0 where
+  pub name : List ℕ
+  pub right_words : AreReplayWords words name
+  pub replays : ReplaysAt name left left' held held' tables tables' status
+
+-- the keeper was not called yet
+abbrev pub IsEarly : Status → Type 0
+IsEarly Done = ⊥
+IsEarly SomeFailed = ⊥
+IsEarly (Usage word) = Unit {0}
+IsEarly ReadFault = Unit {0}
+IsEarly WriteFault = ⊥
+IsEarly StoreFault = ⊥
+IsEarly (Damaged key) = ⊥
+IsEarly NoMemory = ⊥
+IsEarly (ScriptFault line) = Unit {0}
+IsEarly (Limit which) = Unit {0}
+
+-- some first bytes of a line were gained
+abbrev pub GainedFront : Option (List ℕ) → Option (List ℕ) → List ℕ → Type 0
+GainedFront old new line = (n : ℕ) × Gained old new (take n line)
+
+-- the input was read and is a script
+abbrev pub IsLate : Status → Type 0
+IsLate Done = Unit {0}
+IsLate SomeFailed = Unit {0}
+IsLate (Usage word) = ⊥
+IsLate ReadFault = ⊥
+IsLate WriteFault = Unit {0}
+IsLate StoreFault = Unit {0}
+IsLate (Damaged key) = Unit {0}
+IsLate NoMemory = Unit {0}
+IsLate (ScriptFault line) = ⊥
+IsLate (Limit which) = ⊥

@@ -1,0 +1,4 @@
+pub mod Usage
+pub mod Statuses
+pub mod Performing
+pub mod Headline

@@ -1,0 +1,33 @@
+-- One item of a session, performed on a table.
+use Rattle.std.specs.Prelude.{ℕ, ◌≡◌, List, [], ◌∷◌, Option, true}
+use Rattle.gno_port.specs.Streams.{Gained}
+use Rattle.gno_script.specs.declared.item.Item.{Item}
+use Rattle.gno_script.specs.declared.item.Item.TheVariants.{Add, Call, Reload}
+use Rattle.gno_items.specs.Well.{has_no_zero}
+use Rattle.gno_items.specs.Session.{Replied}
+use Rattle.gno_cmd.specs.declared.performing.Ran.{Ran}
+use Rattle.gno_cmd.specs.declared.performing.ItemFault.{ItemFault}
+use Rattle.gno_cmd.specs.declared.performing.ItemFault.TheVariants.{Write, Store, Damaged, NoMemory}
+
+-- what was written and answered is what the reply says
+pub record Shows (held held' : Option (List ℕ)) (ran : Ran) (want : Replied) : Type 0 where
+  pub text : Gained held held' want.text
+  pub good : ran.good ≡ want.good
+  pub done : ran.done ≡ want.done
+
+-- a fault that comes before the item's commit
+abbrev pub IsBeforeCommit : ItemFault → Type 0
+IsBeforeCommit Write = ⊥
+IsBeforeCommit Store = Unit {0}
+IsBeforeCommit Damaged = Unit {0}
+IsBeforeCommit NoMemory = Unit {0}
+
+-- the name of an added file holds no byte 0
+abbrev pub IsNamed : Item → Type 0
+IsNamed (Add budget caller path file) = has_no_zero file.name ≡ true
+IsNamed (Call budget caller path function) = Unit {0}
+IsNamed Reload = Unit {0}
+
+abbrev pub AreNamed : List Item → Type 0
+AreNamed [] = Unit {0}
+AreNamed (item ∷ items) = IsNamed item × AreNamed items

@@ -1,0 +1,52 @@
+// Running the items of a script, one after another.
+ghost use Rattle.std.specs.Prelude.{◌≡◌, ◌≢◌, ◌<◌, ◌≤◌, ◌^◌, ◌&&◌, true, ℕ, List, IfOk, IsSome, OnOk, IsErrOf, length};
+ghost use Rattle.gno_port.specs.Causes.{Rose};
+ghost use Rattle.gno_port.specs.Streams.{Gained};
+ghost use Rattle.gno_items.specs.Session.{session};
+ghost use Rattle.gno_table.specs.FirstFormat.{Stands};
+ghost use Rattle.gno_cmd.specs.Performing.{AreNamed};
+
+use crate::performing::{ItemFault, perform};
+use gno_items::Packages;
+use gno_port::{Keeper, Sink};
+use gno_script::Item;
+use std::alloc::Global;
+
+/// Runs the items on the open table and the packages that it stores, and says whether all ended in results.
+pub(crate) fn run_items<K: Keeper, O: Sink>(
+    alloc: Global,
+    keeper: &mut K,
+    out: &mut O,
+    packages: &mut Packages,
+    name: &[u8],
+    items: &[Item],
+) -> Result<bool, ItemFault>
+    requires open { K.is_open keeper.old ≡ true }
+    requires name { K.open_name keeper.old ≡ name.now }
+    requires stands { Stands (K.tables keeper.old name.now) packages.old }
+    requires count { length items.now < 2 ^ 63 }
+    requires named { AreNamed items.now }
+
+    ensures text { OnOk result (IsSome (K.tables keeper.old name.now) → Gained (O.holds out.old) (O.holds out.new) (session packages.old items.now).text) }
+    ensures good { IfOk result (λ good. IsSome (K.tables keeper.old name.now) → good ≡ (session packages.old items.now).good) }
+    ensures stands { OnOk result (IsSome (K.tables keeper.old name.now) → Stands (K.tables keeper.new name.now) (session packages.old items.now).memory) }
+    ensures told { IsSome (K.tables keeper.old name.now) → IsSome (K.tables keeper.new name.now) }
+    ensures others { (other : List ℕ) → other ≢ name.now → K.tables keeper.new other ≡ K.tables keeper.old other }
+    ensures store { IsErrOf result ItemFault.Store → Rose (K.faults keeper.old) (K.faults keeper.new) }
+    ensures later { K.faults keeper.old ≤ K.faults keeper.new }
+{
+    let mut good = true;
+    let mut done = 0;
+    for item in items {
+        let ran = perform(alloc, keeper, out, packages, name, done, item)?;
+        good = both(good, ran.good);
+        done = ran.done;
+    }
+    Ok(good)
+}
+
+fn both(a: bool, b: bool) -> bool
+    ensures { result ≡ a && b }
+{
+    a && b
+}
