@@ -1,0 +1,72 @@
+// The process's streams as a source and as sinks. They tell nothing of what they hold.
+use gno_port::{Failed, Sink, Source};
+use std::io::{ErrorKind, Read, Write};
+
+/// How often a call that was interrupted is made again.
+const MOST_TURNS: u32 = 1_000_000;
+
+/// A source over a reader.
+#[derive(Drop)]
+pub struct StdSource<R> {
+    from: R,
+    faults: u64,
+}
+
+impl<R> StdSource<R> {
+    pub fn new(from: R) -> StdSource<R> {
+        StdSource { from, faults: 0 }
+    }
+}
+
+impl<R: Read> Source for StdSource<R> {
+    ghost use Rattle.std.specs.Prelude.{None};
+
+    ghost left = { λ s. None };
+
+    ghost faults = { λ s. s.faults };
+
+    fn read(&mut self, buf: &mut [u8]) -> Result<usize, Failed> {
+        for _turn in 0..MOST_TURNS {
+            match self.from.read(buf) {
+                Ok(count) => return Ok(count),
+                Err(error) if error.kind() == ErrorKind::Interrupted => {}
+                Err(_) => break,
+            }
+        }
+        self.faults = self.faults.saturating_add(1);
+        Err(Failed)
+    }
+}
+
+/// A sink over a writer.
+#[derive(Drop)]
+pub struct StdSink<W> {
+    to: W,
+    faults: u64,
+}
+
+impl<W> StdSink<W> {
+    pub fn new(to: W) -> StdSink<W> {
+        StdSink { to, faults: 0 }
+    }
+}
+
+impl<W: Write> Sink for StdSink<W> {
+    ghost use Rattle.std.specs.Prelude.{None};
+
+    ghost holds = { λ s. None };
+
+    ghost faults = { λ s. s.faults };
+
+    fn write(&mut self, piece: &[u8]) -> Result<usize, Failed> {
+        for _turn in 0..MOST_TURNS {
+            match self.to.write(piece) {
+                Ok(count) => return Ok(count),
+                Err(error) if error.kind() == ErrorKind::Interrupted => {}
+                Err(_) => break,
+            }
+        }
+        self.faults = self.faults.saturating_add(1);
+        Err(Failed)
+    }
+}
