@@ -1,9 +1,9 @@
-// Whole numbers of the integer kinds. Go specification, "Integer overflow": sums wrap around.
-ghost use Rattle.std.specs.Prelude.{◌≡◌, ◌+ℤ◌, ◌≤ℤ◌, ◌<◌, ◌^◌, neg_ℤ, pos};
+// Whole numbers of the integer kinds. Go specification, "Integer overflow": sums, differences and products wrap around.
+ghost use Rattle.std.specs.Prelude.{◌≡◌, ◌+ℤ◌, ◌*ℤ◌, ◌≤ℤ◌, ◌<ℤ◌, ◌<◌, ◌^◌, neg_ℤ, pos};
 ghost use Rattle.std.specs.Int.{cast_unsigned, w64};
 ghost use Rattle.std.specs.Option.{SomeIff};
-ghost use Rattle.gno_base.specs.Range.{InRange, wrapped, span};
-ghost use Rattle.gno_base.specs.Number.{sum};
+ghost use Rattle.gno_base.specs.Range.{InRange, IsAlike, wrapped, span};
+ghost use Rattle.gno_base.specs.Number.{difference, product, sum};
 ghost use Rattle.gno_base.specs.declared.kind.Kind.TheVariants.{Int};
 
 use crate::Kind;
@@ -83,6 +83,50 @@ impl Whole {
     {
         wrap(self.kind, self.bits + other.bits)
     }
+
+    /// The difference, wrapped to the kind of both.
+    pub fn sub(self, other: Whole) -> Whole
+        requires { self.kind ≡ other.kind }
+        ensures difference { result ≡ difference self other }
+        ensures range { InRange self.kind result.value }
+    {
+        wrap(self.kind, self.bits - other.bits)
+    }
+
+    /// The product, wrapped to the kind of both.
+    pub fn mul(self, other: Whole) -> Whole
+        requires { self.kind ≡ other.kind }
+        ensures product { result ≡ product self other }
+        ensures range { InRange self.kind result.value }
+    {
+        let value = times(near_zero(self.bits), near_zero(other.bits));
+        wrap(self.kind, value)
+    }
+}
+
+fn times(a: i128, b: i128) -> i128
+    requires low { (neg_ℤ (pos (2 ^ 63)) ≤ℤ a) × (neg_ℤ (pos (2 ^ 63)) ≤ℤ b) }
+    requires high { (a ≤ℤ pos (2 ^ 63)) × (b ≤ℤ pos (2 ^ 63)) }
+    ensures product { result ≡ a *ℤ b }
+    ensures low { neg_ℤ (pos (2 ^ 126)) ≤ℤ result }
+    ensures high { result ≤ℤ pos (2 ^ 126) }
+{
+    a * b
+}
+
+// The number itself, or 2^64 less, so that a product of two fits.
+fn near_zero(value: i128) -> i128
+    requires low { neg_ℤ (pos (2 ^ 63)) ≤ℤ value }
+    requires high { value <ℤ pos (2 ^ 64) }
+    ensures alike { IsAlike result value }
+    ensures low { neg_ℤ (pos (2 ^ 63)) ≤ℤ result }
+    ensures high { result ≤ℤ pos (2 ^ 63) }
+{
+    if value < 9223372036854775808 {
+        value
+    } else {
+        value - 18446744073709551616
+    }
 }
 
 fn word_of(value: i128) -> u64
@@ -99,8 +143,8 @@ fn word_of(value: i128) -> u64
 // The number wrapped to an integer kind.
 fn wrap(kind: Kind, value: i128) -> Whole
     requires kind { 0 < span kind }
-    requires low { neg_ℤ (pos (2 ^ 100)) ≤ℤ value }
-    requires high { value ≤ℤ pos (2 ^ 100) }
+    requires low { neg_ℤ (pos (2 ^ 126)) ≤ℤ value }
+    requires high { value ≤ℤ pos (2 ^ 126) }
     ensures number { result ≡ record { kind = kind; value = wrapped kind value } }
     ensures range { InRange kind result.value }
 {

@@ -1,3 +1,4 @@
 pub mod Charges
+pub mod Index
 pub mod ValueSteps
 pub mod Zeros

@@ -1,8 +1,12 @@
 -- The packages that are held, as a list in order of addition.
-use Rattle.std.specs.Prelude.{ℕ, List, [], ◌∷◌, ◌++◌, Option, Some, None, if◌then◌else◌}
+use Rattle.std.specs.Prelude.{ℕ, List, [], ◌∷◌, ◌++◌, Option, Some, None, if◌then◌else◌, map}
 use Rattle.std.specs.Str.{bytes_eq}
 use Rattle.gno_base.specs.Number.{Number}
 use Rattle.gno_items.specs.declared.memory.Package.{Package}
+
+-- the paths of the packages
+abbrev pub paths : List Package → List (List ℕ)
+paths packages = map (λ (p : Package). p.path) packages
 
 -- the package of a path
 abbrev pub package_of : List Package → List ℕ → Option Package

@@ -4,3 +4,6 @@
 mod run;
 
 pub use run::{FirstEnd, NoMemory, run_first};
+
+#[cfg(test)]
+mod tests;

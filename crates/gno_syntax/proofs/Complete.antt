@@ -1,22 +1,27 @@
 -- What the grammar spells is read.
-use Rattle.std.proofs.Common.{◌≡◌, ℕ, zero, suc, List, [], ◌∷◌, ◌++◌, length, map, Bool, true, false, refl, sym, ◌∙◌, ap, Some, codes, not, subst, append_assoc, append-nil}
+use Rattle.std.proofs.Common.{◌≡◌, ℕ, zero, suc, List, [], ◌∷◌, ◌++◌, length, map, Bool, true, false, refl, sym, ◌∙◌, ◌<◌, ◌^◌, ap, Some, None, codes, not, subst, append_assoc, append-nil}
 use Rattle.std.specs.List.{slice_get, flat_map, list_all}
 use Rattle.std.specs.Str.{bytes_eq}
+use Rattle.std.specs.Fmt.{decimal}
 use Rattle.std.proofs.Math.Seq.{take-append_seam}
 use Rattle.std.proofs.lemmas.Slice.Eq.{bytes_eq-Decides}
 use Rattle.gno_syntax.specs.declared.token.Token.{Token}
-use Rattle.gno_syntax.specs.declared.token.Token.TheVariants.{Word, Increment, LeftBrace, RightBrace, Semicolon}
+use Rattle.gno_syntax.specs.declared.token.Token.TheVariants.{Word, Increment, Assign, LeftParen, RightParen, LeftBrace, RightBrace, Semicolon}
 use Rattle.gno_syntax.specs.declared.tree.FirstFile.{FirstFile}
 use Rattle.gno_syntax.specs.declared.tree.FirstFunc.{FirstFunc}
 use Rattle.gno_syntax.specs.declared.tree.FirstStmt.{FirstStmt}
 use Rattle.gno_syntax.specs.declared.tree.FirstStmt.TheVariants as stmt
 use Rattle.gno_syntax.specs.declared.tree.FirstExpr.{FirstExpr}
+use Rattle.gno_syntax.specs.declared.tree.FirstOp.{FirstOp}
+use Rattle.gno_syntax.specs.declared.tree.FirstOp.TheVariants.{Add, Sub, Mul}
+use Rattle.gno_syntax.specs.declared.operand.Operand.TheVariants.{Name, Number}
 use Rattle.gno_syntax.specs.Names.{is_name}
 use Rattle.gno_syntax.specs.Lawful.{IsBodyIn, AreFuncsIn, IsLawful}
-use Rattle.gno_syntax.specs.Form.{variable_tokens, result_tokens, IsExpr, named, IsStmt, incremented, returned, IsBody, no_statement, last_statement, next_statement, IsFunc, AreFuncs, no_function, next_function, Reads}
+use Rattle.gno_syntax.specs.Form.{variable_tokens, result_tokens, operator_token, IsExpr, named, numbered, name_and_name, name_and_number, number_and_name, IsStmt, incremented, assigned, printed, returned, IsBody, no_statement, last_statement, next_statement, IsFunc, AreFuncs, no_function, next_function, Reads}
 use Rattle.gno_syntax.specs.declared.declared.Declared.{Declared}
-use Rattle.gno_syntax.specs.Productions.{and_then, where_true, same_symbol, at_symbol, at_keyword, symbol, word, keyword, package_clause, is_new, variable, variables, parameters, has_result, variable_name, expression, return_statement, increment_statement, statement, end_of_statement, one_more, statements, repeats, block, ends_well, function, functions, is_left, with_function, one_more_function, file_in}
+use Rattle.gno_syntax.specs.Productions.{and_then, where_true, same_symbol, at_symbol, at_keyword, symbol, word, keyword, package_clause, is_new, variable, variables, parameters, has_result, where_some, variable_name, operand_of, operand, operator_at, right_side, expression, return_statement, print_statement, assignment, increment, name_statement, statement, end_of_statement, one_more, statements, repeats, block, ends_well, function, functions, is_left, with_function, one_more_function, file_in}
 use Rattle.gno_syntax.proofs.Repeats.{repeats_end, repeats_more}
+use Rattle.gno_syntax.proofs.Spellings.{literal_at, name_no_literal}
 use Rattle.gno_syntax.proofs.Places.{same_bytes, both_true}
 use Rattle.gno_syntax.proofs.Distinct.{AreNames, names_in_front, next_is_new, number_at}
 use Rattle.gno_syntax.proofs.Pieces.{parameter_tokens}
@@ -29,51 +34,108 @@ is_name_at (x ∷ xs) zero name all e =
     subst (λ w. is_name w ≡ true) same (both_true (is_name x) (list_all is_name xs) all).0
 is_name_at (x ∷ xs) (suc n) name all e = is_name_at xs n name (both_true (is_name x) (list_all is_name xs) all).1 e
 
--- a name is no keyword
-not_return : (name : List ℕ) → is_name name ≡ true → bytes_eq (codes "return") name ≡ false
-unfolding is_name
-not_return name e =
-    elim (bytes_eq (codes "return") name) as (λ b. bytes_eq (codes "return") name ≡ b → b ≡ false) [
+-- a name is none of the words that are no names
+other_word : (word name : List ℕ) → is_name word ≡ false → is_name name ≡ true → bytes_eq word name ≡ false
+other_word word name reserved e =
+    elim (bytes_eq word name) as (λ b. bytes_eq word name ≡ b → b ≡ false) [
       | true ↦ λ t.
-          let same : codes "return" ≡ name = (bytes_eq-Decides (codes "return") name).0 t in
-          let f : is_name (codes "return") ≡ true = subst (λ w. is_name w ≡ true) (sym same) e in
+          let same : word ≡ name = (bytes_eq-Decides word name).0 t in
+          let f : is_name word ≡ true = subst (λ w. is_name w ≡ true) (sym same) e in
           cc
       | false ↦ λ t. refl
     ] refl
+
+not_return : (name : List ℕ) → is_name name ≡ true → bytes_eq (codes "return") name ≡ false
+unfolding is_name
+not_return name e = other_word (codes "return") name refl e
+
+not_println : (name : List ℕ) → is_name name ≡ true → bytes_eq (codes "println") name ≡ false
+unfolding is_name
+not_println name e = other_word (codes "println") name refl e
 
 keyword_at : (wanted : List ℕ) (rest : List Token) → keyword wanted (Word wanted ∷ rest) ≡ Some (tt, rest)
 unfolding keyword word and_then where_true
 keyword_at wanted rest = rw (same_bytes wanted) refl
 
+operator_at_token : (op : FirstOp) (rest : List Token) → operator_at (operator_token op ∷ rest) ≡ Some op
+unfolding operator_at
+operator_at_token Add rest = refl
+operator_at_token Sub rest = refl
+operator_at_token Mul rest = refl
+
+operator_symbol : (op : FirstOp) (rest : List Token) → symbol (operator_token op) (operator_token op ∷ rest) ≡ Some (tt, rest)
+unfolding symbol same_symbol where_true
+operator_symbol Add rest = refl
+operator_symbol Sub rest = refl
+operator_symbol Mul rest = refl
+
 module _ (vs more : List (List ℕ)) (lawful : AreNames vs) where
   variable_name_at : (name : List ℕ) (n : ℕ) (rest : List Token) → slice_get vs n ≡ Some name → variable_name (length vs) (vs ++ more) (Word name ∷ rest) ≡ Some (n, rest)
-  unfolding variable_name word and_then
+  unfolding variable_name word and_then where_some
   variable_name_at name n rest e = rw (number_at vs more name n lawful.differ e) refl
 
-  expression_at : (part : List Token) (e : FirstExpr) (rest : List Token) → IsExpr vs part e → expression (length vs) (vs ++ more) (part ++ rest) ≡ Some (e, rest)
-  unfolding expression and_then
-  expression_at part e rest (named name n at) = rw (variable_name_at name n rest at) refl
+  operand_at_name : (name : List ℕ) (n : ℕ) (rest : List Token) → slice_get vs n ≡ Some name → operand (length vs) (vs ++ more) (Word name ∷ rest) ≡ Some (Name n, rest)
+  unfolding operand operand_of word and_then where_some
+  operand_at_name name n rest e = rw (name_no_literal name (is_name_at vs n name lawful.each e), number_at vs more name n lawful.differ e) refl
 
-  pub statement_at : (part : List Token) (s : FirstStmt) (rest : List Token) → IsStmt vs part s → statement (length vs) (vs ++ more) (part ++ rest) ≡ Some (s, rest)
-  unfolding statement return_statement increment_statement at_keyword and_then symbol same_symbol where_true
-  statement_at part s rest (incremented name n at) =
-      rw (not_return name (is_name_at vs n name lawful.each at), variable_name_at name n (Increment ∷ rest) at) refl
-  statement_at part s rest (returned front e reads) =
-      rw (keyword_at (codes "return") (front ++ rest), expression_at front e rest reads) refl
+  operand_at_number : (v : ℕ) (rest : List Token) → v < 10 ^ 18 → operand (length vs) (vs ++ more) (Word (decimal v) ∷ rest) ≡ Some (Number v, rest)
+  unfolding operand operand_of word and_then where_some
+  operand_at_number v rest small = rw (literal_at v small) refl
+
+  expression_at : (part : List Token) (e : FirstExpr) (rest : List Token) → IsExpr vs part e → operator_at rest ≡ None → expression (length vs) (vs ++ more) (part ++ rest) ≡ Some (e, rest)
+  unfolding expression right_side and_then where_some
+  expression_at part e rest (named name n at) ends = rw (operand_at_name name n rest at, ends) refl
+  expression_at part e rest (numbered v small) ends = rw (operand_at_number v rest small, ends) refl
+  expression_at part e rest (name_and_name left right n m op at there) ends =
+      let behind = Word right ∷ rest in
+      rw (operand_at_name left n (operator_token op ∷ behind) at, operator_at_token op behind, operator_symbol op behind, operand_at_name right m rest there) refl
+  expression_at part e rest (name_and_number left n v op at small) ends =
+      let behind = Word (decimal v) ∷ rest in
+      rw (operand_at_name left n (operator_token op ∷ behind) at, operator_at_token op behind, operator_symbol op behind, operand_at_number v rest small) refl
+  expression_at part e rest (number_and_name right v n op small at) ends =
+      let behind = Word right ∷ rest in
+      rw (operand_at_number v (operator_token op ∷ behind) small, operator_at_token op behind, operator_symbol op behind, operand_at_name right n rest at) refl
+
+  print_at : (part : List Token) (e : FirstExpr) (rest : List Token) → IsExpr vs part e → statement (length vs) (vs ++ more) (Word (codes "println") ∷ LeftParen ∷ (part ++ RightParen ∷ rest)) ≡ Some (stmt.Print e, rest)
+  unfolding statement print_statement at_keyword and_then symbol same_symbol where_true operator_at
+  print_at part e rest reads = rw (keyword_at (codes "println") (LeftParen ∷ (part ++ RightParen ∷ rest)), expression_at part e (RightParen ∷ rest) reads refl) refl
+
+  pub statement_at : (part : List Token) (s : FirstStmt) (rest : List Token) → IsStmt vs part s → operator_at rest ≡ None → statement (length vs) (vs ++ more) (part ++ rest) ≡ Some (s, rest)
+  unfolding statement return_statement name_statement assignment increment at_symbol at_keyword and_then symbol same_symbol where_true
+  statement_at part s rest (incremented name n at) ends =
+      let is = is_name_at vs n name lawful.each at in
+      rw (not_return name is, not_println name is, variable_name_at name n (Increment ∷ rest) at) refl
+  statement_at part s rest (assigned name n front e at reads) ends =
+      let is = is_name_at vs n name lawful.each at in
+      rw (not_return name is, not_println name is, variable_name_at name n (Assign ∷ (front ++ rest)) at, expression_at front e rest reads ends) refl
+  statement_at part s rest (printed front e reads) ends =
+      ap (λ ts. statement (length vs) (vs ++ more) (Word (codes "println") ∷ LeftParen ∷ ts)) (append_assoc front (RightParen ∷ []) rest) ∙ print_at front e rest reads
+  statement_at part s rest (returned front e reads) ends =
+      rw (keyword_at (codes "return") (front ++ rest), expression_at front e rest reads ends) refl
 
   -- a statement begins with no brace
   begins : (part : List Token) (s : FirstStmt) (rest : List Token) → IsStmt vs part s → not (at_symbol RightBrace (part ++ rest)) ≡ true
   unfolding at_symbol same_symbol
   begins part s rest (incremented name n at) = refl
+  begins part s rest (assigned name n front e at reads) = refl
+  begins part s rest (printed front e reads) = refl
   begins part s rest (returned front e reads) = refl
 
   goes_on : List Token → Bool
   goes_on ts = not (at_symbol RightBrace ts)
 
-  step_at : (body : List FirstStmt) (part : List Token) (s : FirstStmt) (middle rest : List Token) → IsStmt vs part s → end_of_statement middle ≡ Some (tt, rest)
+  step_at : (body : List FirstStmt) (part : List Token) (s : FirstStmt) (middle rest : List Token) → IsStmt vs part s → operator_at middle ≡ None → end_of_statement middle ≡ Some (tt, rest)
       → one_more (length vs) (vs ++ more) body (part ++ middle) ≡ Some (body ++ s ∷ [], rest)
   unfolding one_more and_then
-  step_at body part s middle rest reads e = rw (statement_at part s middle reads, e) refl
+  step_at body part s middle rest reads ends e = rw (statement_at part s middle reads ends, e) refl
+
+  no_operator_at_brace : (rest : List Token) → operator_at (RightBrace ∷ rest) ≡ None
+  unfolding operator_at
+  no_operator_at_brace rest = refl
+
+  no_operator_at_semicolon : (rest : List Token) → operator_at (Semicolon ∷ rest) ≡ None
+  unfolding operator_at
+  no_operator_at_semicolon rest = refl
 
   ends_at_brace : (rest : List Token) → end_of_statement (RightBrace ∷ rest) ≡ Some (tt, RightBrace ∷ rest)
   unfolding end_of_statement at_symbol same_symbol
@@ -93,14 +155,14 @@ module _ (vs more : List (List ℕ)) (lawful : AreNames vs) where
   statements_at body part added rest no_statement = rw append-nil (stops_at_brace body rest)
   statements_at body part added rest (last_statement front s reads) =
       repeats_more (λ ts. not (at_symbol RightBrace ts)) (one_more (length vs) (vs ++ more)) (one_more_takes (length vs) (vs ++ more)) body (front ++ RightBrace ∷ rest) (body ++ s ∷ []) (RightBrace ∷ rest)
-      (begins front s (RightBrace ∷ rest) reads) (step_at body front s (RightBrace ∷ rest) (RightBrace ∷ rest) reads (ends_at_brace rest))
+      (begins front s (RightBrace ∷ rest) reads) (step_at body front s (RightBrace ∷ rest) (RightBrace ∷ rest) reads (no_operator_at_brace rest) (ends_at_brace rest))
       ∙ stops_at_brace (body ++ s ∷ []) rest
   statements_at body part added rest (next_statement front behind s others reads more_reads) =
       let e : (front ++ Semicolon ∷ behind) ++ RightBrace ∷ rest ≡ front ++ Semicolon ∷ (behind ++ RightBrace ∷ rest) = append_assoc front (Semicolon ∷ behind) (RightBrace ∷ rest) in
       let one = repeats_more (λ ts. not (at_symbol RightBrace ts)) (one_more (length vs) (vs ++ more)) (one_more_takes (length vs) (vs ++ more)) body
       (front ++ Semicolon ∷ (behind ++ RightBrace ∷ rest)) (body ++ s ∷ []) (behind ++ RightBrace ∷ rest)
       (begins front s (Semicolon ∷ (behind ++ RightBrace ∷ rest)) reads)
-      (step_at body front s (Semicolon ∷ (behind ++ RightBrace ∷ rest)) (behind ++ RightBrace ∷ rest) reads (ends_at_semicolon (behind ++ RightBrace ∷ rest))) in
+      (step_at body front s (Semicolon ∷ (behind ++ RightBrace ∷ rest)) (behind ++ RightBrace ∷ rest) reads (no_operator_at_semicolon (behind ++ RightBrace ∷ rest)) (ends_at_semicolon (behind ++ RightBrace ∷ rest))) in
       let then_others = statements_at (body ++ s ∷ []) behind others rest more_reads in
       ap (repeats (λ ts. not (at_symbol RightBrace ts)) (one_more (length vs) (vs ++ more)) body) e ∙ one ∙ then_others ∙ ap (λ l. Some (l, RightBrace ∷ rest)) (append_assoc body (s ∷ []) others)
 
@@ -146,6 +208,10 @@ ends_of count false [] h = refl
 ends_of count true [] h = absurd h
 ends_of count false (stmt.Increment n ∷ body) h = ends_of count false body h.1
 ends_of count true (stmt.Increment n ∷ body) h = ends_of count true body h.1
+ends_of count false (stmt.Assign n x ∷ body) h = ends_of count false body h.1
+ends_of count true (stmt.Assign n x ∷ body) h = ends_of count true body h.1
+ends_of count false (stmt.Print x ∷ body) h = ends_of count false body h.1
+ends_of count true (stmt.Print x ∷ body) h = ends_of count true body h.1
 ends_of count true (stmt.Return x ∷ []) h = refl
 ends_of count false (stmt.Return x ∷ []) h = absurd h
 ends_of count true (stmt.Return x ∷ s ∷ body) h = absurd h

@@ -1,5 +1,6 @@
 pub mod Repeats
 pub mod Places
+pub mod Spellings
 pub mod Distinct
 pub mod Pieces
 pub mod Shorter

@@ -3,9 +3,11 @@ use Rattle.std.proofs.Common.{◌≡◌, ℕ, List, [], ◌∷◌, ◌++◌, ◌
 use Rattle.std.specs.Prelude.{true, false, ◌&&◌, Option, Some, None, option_map, IfSome}
 use Rattle.std.specs.List.{list_all}
 use Rattle.std.proofs.lemmas.Bool.Decides.{nat_tests}
-use Rattle.gno_syntax.specs.declared.token.Token.TheVariants.{Word, Increment, LeftParen, RightParen, LeftBrace, RightBrace, Semicolon}
+use Rattle.gno_syntax.specs.declared.token.Token.{Token}
+use Rattle.gno_syntax.specs.declared.token.Token.TheVariants.{Word, Increment, Assign, Plus, Minus, Star, LeftParen, RightParen, LeftBrace, RightBrace, Semicolon}
 use Rattle.gno_syntax.specs.Pieces.{Piece, Written, Blank, LineEnd, is_word_byte, is_blank, is_word_piece, begins_with_word, begins_in_word}
-use Rattle.gno_syntax.specs.Reading.{punctuation_of, piece_of, with_piece, lengthened, pieces_in}
+use Rattle.gno_syntax.specs.Scanning.{plus_token, behind_plus}
+use Rattle.gno_syntax.specs.Reading.{punctuation_of, piece_of, with_piece, with_byte, lengthened, pieces_in}
 
 pub plus_no_word : (b : ℕ) → is_word_byte b ≡ true → (b == 43) ≡ false
 unfolding is_word_byte
@@ -31,54 +33,49 @@ blank_no_line_end b w = grind (arith, nat_tests)
 abbrev pub BeginsWithNone : Option (List Piece) → Type 0
 BeginsWithNone pieces = IfSome pieces (λ it. begins_with_word it ≡ false)
 
-none_behind_plus : (bs : List ℕ) → BeginsWithNone (pieces_in true bs)
-unfolding pieces_in
-none_behind_plus [] = tt
-none_behind_plus (b ∷ bs) = elim (b == 43) as (λ t. BeginsWithNone (cond t (with_piece (Some (Written Increment)) (pieces_in false bs)) None)) [
-  | true ↦ elim (pieces_in false bs) as (λ o. BeginsWithNone (with_piece (Some (Written Increment)) o)) [ None ↦ tt | Some ps ↦ refl ]
-  | false ↦ tt
-]
+-- what holds of both answers to a test, holds of what it chooses
+pub chosen : {A : Type 0} (P : A → Type 0) (test : Bool) (a b : A) → (test ≡ true → P a) → P b → P (cond test a b)
+chosen P true a b f g = f refl
+chosen P false a b f g = g
 
 none_with : (p : Option Piece) (o : Option (List Piece)) → IfSome p (λ it. is_word_piece it ≡ false) → BeginsWithNone (with_piece p o)
 none_with None o h = tt
 none_with (Some p) None h = tt
 none_with (Some p) (Some ps) h = h
 
-punctuation_is_no_word : (b : ℕ) → IfSome (option_map Written (punctuation_of b)) (λ it. is_word_piece it ≡ false)
+abbrev IsNoWord : Option Piece → Type 0
+IsNoWord piece = IfSome piece (λ it. is_word_piece it ≡ false)
+
+abbrev IsNoWordToken : Option Token → Type 0
+IsNoWordToken token = IsNoWord (option_map Written token)
+
+punctuation_is_no_word : (b : ℕ) → IsNoWordToken (punctuation_of b)
 unfolding punctuation_of
 punctuation_is_no_word b =
-    elim (b == 40) as (λ t. IfSome (option_map Written (cond t (Some LeftParen) (cond (b == 41) (Some RightParen) (cond (b == 123) (Some LeftBrace) (cond (b == 125) (Some RightBrace) (cond (b == 59) (Some Semicolon) None)))))) (λ it. is_word_piece it ≡ false)) [
-      | true ↦ refl
-      | false ↦
-          elim (b == 41) as (λ t. IfSome (option_map Written (cond t (Some RightParen) (cond (b == 123) (Some LeftBrace) (cond (b == 125) (Some RightBrace) (cond (b == 59) (Some Semicolon) None))))) (λ it. is_word_piece it ≡ false)) [
-            | true ↦ refl
-            | false ↦
-                elim (b == 123) as (λ t. IfSome (option_map Written (cond t (Some LeftBrace) (cond (b == 125) (Some RightBrace) (cond (b == 59) (Some Semicolon) None)))) (λ it. is_word_piece it ≡ false)) [
-                  | true ↦ refl
-                  | false ↦
-                      elim (b == 125) as (λ t. IfSome (option_map Written (cond t (Some RightBrace) (cond (b == 59) (Some Semicolon) None))) (λ it. is_word_piece it ≡ false)) [
-                        | true ↦ refl
-                        | false ↦
-                            elim (b == 59) as (λ t. IfSome (option_map Written (cond t (Some Semicolon) None)) (λ it. is_word_piece it ≡ false)) [ true ↦ refl | false ↦ tt ]
-                      ]
-                ]
-          ]
-    ]
+    chosen IsNoWordToken (b == 40) _ _ (λ _. refl)
+    (chosen IsNoWordToken (b == 41) _ _ (λ _. refl)
+    (chosen IsNoWordToken (b == 123) _ _ (λ _. refl)
+    (chosen IsNoWordToken (b == 125) _ _ (λ _. refl)
+    (chosen IsNoWordToken (b == 59) _ _ (λ _. refl)
+    (chosen IsNoWordToken (b == 61) _ _ (λ _. refl)
+    (chosen IsNoWordToken (b == 45) _ _ (λ _. refl)
+    (chosen IsNoWordToken (b == 42) _ _ (λ _. refl) tt)))))))
 
-piece_is_no_word : (b : ℕ) → IfSome (piece_of b) (λ it. is_word_piece it ≡ false)
-piece_is_no_word b =
-    elim (b == 10) as (λ t. IfSome (cond t (Some LineEnd) (cond (is_blank b) (Some (Blank b)) (option_map Written (punctuation_of b)))) (λ it. is_word_piece it ≡ false)) [
-      | true ↦ refl
-      | false ↦
-          elim (is_blank b) as (λ t. IfSome (cond t (Some (Blank b)) (option_map Written (punctuation_of b))) (λ it. is_word_piece it ≡ false)) [ true ↦ refl | false ↦ punctuation_is_no_word b ]
-    ]
+piece_is_no_word : (b : ℕ) → IsNoWord (piece_of b)
+piece_is_no_word b = chosen IsNoWord (b == 10) _ _ (λ _. refl) (chosen IsNoWord (is_blank b) _ _ (λ _. refl) (punctuation_is_no_word b))
+
+byte_is_no_word : (b : ℕ) (o : Option (List Piece)) → is_word_byte b ≡ false → BeginsWithNone (with_byte b o)
+byte_is_no_word b o w = rw w (none_with (piece_of b) o (piece_is_no_word b))
+
+none_behind_plus : (bs : List ℕ) → BeginsWithNone (pieces_in true bs)
+unfolding pieces_in
+none_behind_plus [] = refl
+none_behind_plus (b ∷ bs) =
+    chosen BeginsWithNone (b == 43) _ _ (λ _. none_with (Some (Written Increment)) (pieces_in false bs) refl) (none_with (Some (Written Plus)) (with_byte b (pieces_in false bs)) refl)
 
 none_at : (b : ℕ) (bs : List ℕ) → is_word_byte b ≡ false → BeginsWithNone (pieces_in false (b ∷ bs))
 unfolding pieces_in
-none_at b bs w = rw w (elim (b == 43) as (λ t. BeginsWithNone (cond t (pieces_in true bs) (with_piece (piece_of b) (pieces_in false bs)))) [
-  | true ↦ none_behind_plus bs
-  | false ↦ none_with (piece_of b) (pieces_in false bs) (piece_is_no_word b)
-])
+none_at b bs w = chosen BeginsWithNone (b == 43) _ _ (λ _. none_behind_plus bs) (byte_is_no_word b (pieces_in false bs) w)
 
 -- where a text begins with no word byte, its pieces begin with no word
 pub none_of : (bs : List ℕ) → begins_in_word bs ≡ false → BeginsWithNone (pieces_in false bs)
@@ -91,6 +88,10 @@ lengthened_none b None h = refl
 lengthened_none b (Some []) h = refl
 lengthened_none b (Some (Written (Word w) ∷ ps)) h = cc
 lengthened_none b (Some (Written Increment ∷ ps)) h = refl
+lengthened_none b (Some (Written Assign ∷ ps)) h = refl
+lengthened_none b (Some (Written Plus ∷ ps)) h = refl
+lengthened_none b (Some (Written Minus ∷ ps)) h = refl
+lengthened_none b (Some (Written Star ∷ ps)) h = refl
 lengthened_none b (Some (Written LeftParen ∷ ps)) h = refl
 lengthened_none b (Some (Written RightParen ∷ ps)) h = refl
 lengthened_none b (Some (Written LeftBrace ∷ ps)) h = refl
@@ -128,17 +129,14 @@ pub at_blank : (b : ℕ) (bs : List ℕ) → is_blank b ≡ true → pieces_in f
 unfolding pieces_in
 at_blank b bs h = rw (blank_no_plus b h, blank_no_word b h, blank_no_line_end b h, h) refl
 
-pub at_increment : (bs : List ℕ) → pieces_in false (43 ∷ 43 ∷ bs) ≡ with_piece (Some (Written Increment)) (pieces_in false bs)
+-- a `+` and what it begins
+pub at_plus : (bs : List ℕ) → pieces_in false (43 ∷ bs) ≡ with_piece (Some (Written (plus_token bs))) (pieces_in false (behind_plus bs))
 unfolding pieces_in
-at_increment bs = refl
-
-pub at_plus_alone : (c : ℕ) (bs : List ℕ) → (c == 43) ≡ false → pieces_in false (43 ∷ c ∷ bs) ≡ None
-unfolding pieces_in
-at_plus_alone c bs h = rw h refl
-
-pub at_plus_last : pieces_in false (43 ∷ []) ≡ None
-unfolding pieces_in
-at_plus_last = refl
+at_plus [] = refl
+at_plus (b ∷ bs) =
+    elim (b == 43) as (λ t. (b == 43) ≡ t → cond t (with_piece (Some (Written Increment)) (pieces_in false bs)) (with_piece (Some (Written Plus)) (with_byte b (pieces_in false bs)))
+    ≡ with_piece (Some (Written (cond t Increment Plus))) (pieces_in false (cond t bs (b ∷ bs))))
+    [ true ↦ λ _. refl | false ↦ λ e. rw e refl ] refl
 
 -- a byte of no word, but `+`
 at_single : (b : ℕ) (bs : List ℕ) → (b == 43) ≡ false → is_word_byte b ≡ false → pieces_in false (b ∷ bs) ≡ with_piece (piece_of b) (pieces_in false bs)

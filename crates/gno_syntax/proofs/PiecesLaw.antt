@@ -1,12 +1,13 @@
 -- The pieces that are found are the text's pieces, and its only ones.
-use Rattle.std.proofs.Common.{◌≡◌, ℕ, List, [], ◌∷◌, ◌++◌, ◌==◌, Bool, refl, arith, ap, ◌∙◌, sym, subst, cond}
+use Rattle.std.proofs.Common.{◌≡◌, ℕ, List, [], ◌∷◌, ◌++◌, ◌==◌, Bool, refl, arith, ap, ◌∙◌, sym, subst}
 use Rattle.std.specs.Prelude.{true, false, not, ◌&&◌, Option, Some, None, option_map, IfSome}
 use Rattle.std.specs.List.{list_all, flat_map}
 use Rattle.std.proofs.lemmas.Bool.Decides.{nat_tests}
-use Rattle.gno_syntax.specs.declared.token.Token.TheVariants.{Word, Increment, LeftParen, RightParen, LeftBrace, RightBrace, Semicolon}
-use Rattle.gno_syntax.specs.Pieces.{Piece, Written, Blank, LineEnd, ArePieces, is_word_byte, is_blank, is_piece, are_apart, spelling, is_word_piece, begins_with_word, begins_in_word}
-use Rattle.gno_syntax.specs.Reading.{punctuation_of, piece_of, with_piece, lengthened, pieces_in}
-use Rattle.gno_syntax.proofs.PieceSteps.{at_word, at_line_end, at_blank, blank_no_word}
+use Rattle.gno_syntax.specs.declared.token.Token.{Token}
+use Rattle.gno_syntax.specs.declared.token.Token.TheVariants.{Word, Increment, Assign, Plus, Minus, Star, LeftParen, RightParen, LeftBrace, RightBrace, Semicolon}
+use Rattle.gno_syntax.specs.Pieces.{Piece, Written, Blank, LineEnd, ArePieces, is_word_byte, is_blank, is_piece, are_apart, spelling, goes_on, begins_with_word, begins_with_plus, begins_in_word}
+use Rattle.gno_syntax.specs.Reading.{punctuation_of, piece_of, with_piece, with_byte, lengthened, pieces_in}
+use Rattle.gno_syntax.proofs.PieceSteps.{at_word, at_line_end, at_blank, blank_no_word, blank_no_plus, plus_no_word, chosen}
 
 both : (x y : Bool) → (x && y) ≡ true → (x ≡ true) × (y ≡ true)
 both true true e = (refl, refl)
@@ -16,50 +17,39 @@ both false y e = cc
 same_byte : (b c : ℕ) → (b == c) ≡ true → b ≡ c
 same_byte b c e = grind (arith, nat_tests)
 
--- one piece, of one byte and no word
+-- one piece, of one byte, no word and no `+`
 record IsSingle (b : ℕ) (piece : Piece) : Type 0 where
   spelled : spelling piece ≡ b ∷ []
   is_one : is_piece piece ≡ true
-  no_word : is_word_piece piece ≡ false
+  alone : (pieces : List Piece) → goes_on piece pieces ≡ false
+  no_plus : (pieces : List Piece) → begins_with_plus (piece ∷ pieces) ≡ false
 
 Singles : ℕ → Option Piece → Type 0
 Singles b piece = IfSome piece (IsSingle b)
 
-single_punctuation : (b : ℕ) → Singles b (option_map Written (punctuation_of b))
-unfolding punctuation_of Singles
-single_punctuation b = at_paren (b == 40) refl
-  where
-    at_semicolon : (t : Bool) → (b == 59) ≡ t → Singles b (option_map Written (cond t (Some Semicolon) None))
-    at_semicolon true e = record { spelled = ap (λ c. c ∷ []) (sym (same_byte b 59 e)); is_one = refl; no_word = refl }
-    at_semicolon false e = tt
+SingleTokens : ℕ → Option Token → Type 0
+SingleTokens b token = IfSome (option_map Written token) (IsSingle b)
 
-    at_close : (t : Bool) → (b == 125) ≡ t → Singles b (option_map Written (cond t (Some RightBrace) (cond (b == 59) (Some Semicolon) None)))
-    at_close true e = record { spelled = ap (λ c. c ∷ []) (sym (same_byte b 125 e)); is_one = refl; no_word = refl }
-    at_close false e = at_semicolon (b == 59) refl
+same_spelling : (b c : ℕ) → (b == c) ≡ true → ◌≡◌ {A = List ℕ} (c ∷ []) (b ∷ [])
+same_spelling b c e = ap (λ (x : ℕ). x ∷ []) (sym (same_byte b c e))
 
-    at_open : (t : Bool) → (b == 123) ≡ t → Singles b (option_map Written (cond t (Some LeftBrace) (cond (b == 125) (Some RightBrace) (cond (b == 59) (Some Semicolon) None))))
-    at_open true e = record { spelled = ap (λ c. c ∷ []) (sym (same_byte b 123 e)); is_one = refl; no_word = refl }
-    at_open false e = at_close (b == 125) refl
-
-    at_right : (t : Bool) → (b == 41) ≡ t → Singles b (option_map Written (cond t (Some RightParen) (cond (b == 123) (Some LeftBrace) (cond (b == 125) (Some RightBrace) (cond (b == 59) (Some Semicolon) None)))))
-    at_right true e = record { spelled = ap (λ c. c ∷ []) (sym (same_byte b 41 e)); is_one = refl; no_word = refl }
-    at_right false e = at_open (b == 123) refl
-
-    at_paren : (t : Bool) → (b == 40) ≡ t → Singles b (option_map Written (cond t (Some LeftParen) (cond (b == 41) (Some RightParen) (cond (b == 123) (Some LeftBrace) (cond (b == 125) (Some RightBrace) (cond (b == 59) (Some Semicolon) None))))))
-    at_paren true e = record { spelled = ap (λ c. c ∷ []) (sym (same_byte b 40 e)); is_one = refl; no_word = refl }
-    at_paren false e = at_right (b == 41) refl
+single_punctuation : (b : ℕ) → SingleTokens b (punctuation_of b)
+unfolding punctuation_of SingleTokens
+single_punctuation b =
+    chosen (SingleTokens b) (b == 40) _ _ (λ e. record { spelled = same_spelling b 40 e; is_one = refl; alone = λ _. refl; no_plus = λ _. refl })
+    (chosen (SingleTokens b) (b == 41) _ _ (λ e. record { spelled = same_spelling b 41 e; is_one = refl; alone = λ _. refl; no_plus = λ _. refl })
+    (chosen (SingleTokens b) (b == 123) _ _ (λ e. record { spelled = same_spelling b 123 e; is_one = refl; alone = λ _. refl; no_plus = λ _. refl })
+    (chosen (SingleTokens b) (b == 125) _ _ (λ e. record { spelled = same_spelling b 125 e; is_one = refl; alone = λ _. refl; no_plus = λ _. refl })
+    (chosen (SingleTokens b) (b == 59) _ _ (λ e. record { spelled = same_spelling b 59 e; is_one = refl; alone = λ _. refl; no_plus = λ _. refl })
+    (chosen (SingleTokens b) (b == 61) _ _ (λ e. record { spelled = same_spelling b 61 e; is_one = refl; alone = λ _. refl; no_plus = λ _. refl })
+    (chosen (SingleTokens b) (b == 45) _ _ (λ e. record { spelled = same_spelling b 45 e; is_one = refl; alone = λ _. refl; no_plus = λ _. refl })
+    (chosen (SingleTokens b) (b == 42) _ _ (λ e. record { spelled = same_spelling b 42 e; is_one = refl; alone = λ _. refl; no_plus = λ _. refl }) tt)))))))
 
 single_piece : (b : ℕ) → Singles b (piece_of b)
-unfolding Singles
-single_piece b = at_line_end (b == 10) refl
-  where
-    at_blank : (t : Bool) → is_blank b ≡ t → Singles b (cond t (Some (Blank b)) (option_map Written (punctuation_of b)))
-    at_blank true e = record { spelled = refl; is_one = e; no_word = refl }
-    at_blank false e = single_punctuation b
-
-    at_line_end : (t : Bool) → (b == 10) ≡ t → Singles b (cond t (Some LineEnd) (cond (is_blank b) (Some (Blank b)) (option_map Written (punctuation_of b))))
-    at_line_end true e = record { spelled = ap (λ c. c ∷ []) (sym (same_byte b 10 e)); is_one = refl; no_word = refl }
-    at_line_end false e = at_blank (is_blank b) refl
+unfolding Singles SingleTokens
+single_piece b =
+    chosen (Singles b) (b == 10) _ _ (λ e. record { spelled = same_spelling b 10 e; is_one = refl; alone = λ _. refl; no_plus = λ _. refl })
+    (chosen (Singles b) (is_blank b) _ _ (λ e. record { spelled = refl; is_one = e; alone = λ _. refl; no_plus = λ _. refl }) (single_punctuation b))
 
 Found : List ℕ → Option (List Piece) → Type 0
 Found text pieces = IfSome pieces (ArePieces text)
@@ -71,13 +61,18 @@ found_single b bs (Some p) None s f = tt
 found_single b bs (Some p) (Some ps) s f = record {
   spelled = ap (λ (t : List ℕ). b ∷ t) f.spelled ∙ ap (λ (t : List ℕ). t ++ flat_map spelling ps) (sym s.spelled);
   each = rw (s.is_one, f.each) refl;
-  longest = rw (s.no_word, f.longest) refl;
+  longest = rw (s.alone ps, f.longest) refl;
 }
 
 found_increment : (bs : List ℕ) (o : Option (List Piece)) → Found bs o → Found (43 ∷ 43 ∷ bs) (with_piece (Some (Written Increment)) o)
 unfolding Found
 found_increment bs None f = tt
 found_increment bs (Some ps) f = record { spelled = ap (λ (t : List ℕ). 43 ∷ 43 ∷ t) f.spelled; each = f.each; longest = f.longest }
+
+found_plus : (text : List ℕ) (o : Option (List Piece)) → Found text o → IfSome o (λ it. begins_with_plus it ≡ false) → Found (43 ∷ text) (with_piece (Some (Written Plus)) o)
+unfolding Found
+found_plus text None f n = tt
+found_plus text (Some ps) f n = record { spelled = ap (λ (t : List ℕ). 43 ∷ t) f.spelled; each = f.each; longest = rw (n, f.longest) refl }
 
 new_word : (b : ℕ) (bs : List ℕ) (ps : List Piece) → is_word_byte b ≡ true → ArePieces bs ps → begins_with_word ps ≡ false → ArePieces (b ∷ bs) (Written (Word (b ∷ [])) ∷ ps)
 new_word b bs ps w f n = record {
@@ -100,6 +95,10 @@ found_word b bs None w f = tt
 found_word b bs (Some []) w f = new_word b bs [] w f refl
 found_word b bs (Some (Written (Word word) ∷ ps)) w f = longer_word b bs word ps w f
 found_word b bs (Some (Written Increment ∷ ps)) w f = new_word b bs (Written Increment ∷ ps) w f refl
+found_word b bs (Some (Written Assign ∷ ps)) w f = new_word b bs (Written Assign ∷ ps) w f refl
+found_word b bs (Some (Written Plus ∷ ps)) w f = new_word b bs (Written Plus ∷ ps) w f refl
+found_word b bs (Some (Written Minus ∷ ps)) w f = new_word b bs (Written Minus ∷ ps) w f refl
+found_word b bs (Some (Written Star ∷ ps)) w f = new_word b bs (Written Star ∷ ps) w f refl
 found_word b bs (Some (Written LeftParen ∷ ps)) w f = new_word b bs (Written LeftParen ∷ ps) w f refl
 found_word b bs (Some (Written RightParen ∷ ps)) w f = new_word b bs (Written RightParen ∷ ps) w f refl
 found_word b bs (Some (Written LeftBrace ∷ ps)) w f = new_word b bs (Written LeftBrace ∷ ps) w f refl
@@ -113,26 +112,53 @@ with_plus : Bool → List ℕ → List ℕ
 with_plus true text = 43 ∷ text
 with_plus false text = text
 
-found_behind_plus : (b : ℕ) (bs : List ℕ) → Found bs (pieces_in false bs) → (t : Bool) → (b == 43) ≡ t → Found (43 ∷ b ∷ bs) (cond t (with_piece (Some (Written Increment)) (pieces_in false bs)) None)
-unfolding Found
-found_behind_plus b bs f true e = subst (λ (c : ℕ). Found (43 ∷ c ∷ bs) (with_piece (Some (Written Increment)) (pieces_in false bs))) (sym (same_byte b 43 e)) (found_increment bs (pieces_in false bs) f)
-found_behind_plus b bs f false e = tt
+lengthened_no_plus : (b : ℕ) (ps : List Piece) → begins_with_plus (lengthened b ps) ≡ false
+lengthened_no_plus b [] = refl
+lengthened_no_plus b (Written (Word w) ∷ ps) = refl
+lengthened_no_plus b (Written Increment ∷ ps) = refl
+lengthened_no_plus b (Written Assign ∷ ps) = refl
+lengthened_no_plus b (Written Plus ∷ ps) = refl
+lengthened_no_plus b (Written Minus ∷ ps) = refl
+lengthened_no_plus b (Written Star ∷ ps) = refl
+lengthened_no_plus b (Written LeftParen ∷ ps) = refl
+lengthened_no_plus b (Written RightParen ∷ ps) = refl
+lengthened_no_plus b (Written LeftBrace ∷ ps) = refl
+lengthened_no_plus b (Written RightBrace ∷ ps) = refl
+lengthened_no_plus b (Written Semicolon ∷ ps) = refl
+lengthened_no_plus b (Blank c ∷ ps) = refl
+lengthened_no_plus b (LineEnd ∷ ps) = refl
 
-found_at : (b : ℕ) (bs : List ℕ) → Found bs (pieces_in false bs) → (t : Bool) → is_word_byte b ≡ t → Found (b ∷ bs) (cond t (option_map (lengthened b) (pieces_in false bs)) (with_piece (piece_of b) (pieces_in false bs)))
-found_at b bs f true e = found_word b bs (pieces_in false bs) e f
-found_at b bs f false e = found_single b bs (piece_of b) (pieces_in false bs) (single_piece b) f
+NoPlus : Option (List Piece) → Type 0
+NoPlus pieces = IfSome pieces (λ it. begins_with_plus it ≡ false)
 
-found_plus_or : (b : ℕ) (bs : List ℕ) → Found (43 ∷ bs) (pieces_in true bs) → Found bs (pieces_in false bs) → (t : Bool) → (b == 43) ≡ t →
-    Found (b ∷ bs) (cond t (pieces_in true bs) (cond (is_word_byte b) (option_map (lengthened b) (pieces_in false bs)) (with_piece (piece_of b) (pieces_in false bs))))
-found_plus_or b bs p f true e = subst (λ (c : ℕ). Found (c ∷ bs) (pieces_in true bs)) (sym (same_byte b 43 e)) p
-found_plus_or b bs p f false e = found_at b bs f (is_word_byte b) refl
+no_plus_single : (b : ℕ) (p : Option Piece) (o : Option (List Piece)) → Singles b p → NoPlus (with_piece p o)
+unfolding Singles NoPlus
+no_plus_single b None o s = tt
+no_plus_single b (Some p) None s = tt
+no_plus_single b (Some p) (Some ps) s = s.no_plus ps
+
+no_plus_word : (b : ℕ) (o : Option (List Piece)) → NoPlus (option_map (lengthened b) o)
+unfolding NoPlus
+no_plus_word b None = tt
+no_plus_word b (Some ps) = lengthened_no_plus b ps
+
+no_plus_byte : (b : ℕ) (o : Option (List Piece)) → NoPlus (with_byte b o)
+no_plus_byte b o = chosen NoPlus (is_word_byte b) _ _ (λ _. no_plus_word b o) (no_plus_single b (piece_of b) o (single_piece b))
+
+found_byte : (b : ℕ) (bs : List ℕ) (o : Option (List Piece)) → Found bs o → Found (b ∷ bs) (with_byte b o)
+found_byte b bs o f = chosen (Found (b ∷ bs)) (is_word_byte b) _ _ (λ e. found_word b bs o e f) (found_single b bs (piece_of b) o (single_piece b) f)
 
 found : (bs : List ℕ) (plus : Bool) → Found (with_plus plus bs) (pieces_in plus bs)
-unfolding Found with_plus pieces_in
-found [] true = tt
+unfolding Found NoPlus with_plus pieces_in
+found [] true = record { spelled = refl; each = refl; longest = refl }
 found [] false = record { spelled = refl; each = refl; longest = refl }
-found (b ∷ bs) true = found_behind_plus b bs (found bs false) (b == 43) refl
-found (b ∷ bs) false = found_plus_or b bs (found bs true) (found bs false) (b == 43) refl
+found (b ∷ bs) true =
+    chosen (Found (43 ∷ b ∷ bs)) (b == 43) _ _
+    (λ e. subst (λ (c : ℕ). Found (43 ∷ c ∷ bs) (with_piece (Some (Written Increment)) (pieces_in false bs))) (sym (same_byte b 43 e)) (found_increment bs (pieces_in false bs) (found bs false)))
+    (found_plus (b ∷ bs) (with_byte b (pieces_in false bs)) (found_byte b bs (pieces_in false bs) (found bs false)) (no_plus_byte b (pieces_in false bs)))
+found (b ∷ bs) false =
+    chosen (Found (b ∷ bs)) (b == 43) _ _ (λ e. subst (λ (c : ℕ). Found (c ∷ bs) (pieces_in true bs)) (sym (same_byte b 43 e)) (found bs true))
+    (found_byte b bs (pieces_in false bs) (found bs false))
 
 -- what is found are the text's pieces
 pub pieces_found : (text : List ℕ) → IfSome (pieces_in false text) (ArePieces text)
@@ -144,6 +170,10 @@ unfolding is_word_byte
 no_word_front [] a n = refl
 no_word_front (Written (Word w) ∷ ps) a n = cc
 no_word_front (Written Increment ∷ ps) a n = refl
+no_word_front (Written Assign ∷ ps) a n = refl
+no_word_front (Written Plus ∷ ps) a n = refl
+no_word_front (Written Minus ∷ ps) a n = refl
+no_word_front (Written Star ∷ ps) a n = refl
 no_word_front (Written LeftParen ∷ ps) a n = refl
 no_word_front (Written RightParen ∷ ps) a n = refl
 no_word_front (Written LeftBrace ∷ ps) a n = refl
@@ -156,6 +186,33 @@ negated : (b : Bool) → not b ≡ true → b ≡ false
 negated true e = cc
 negated false e = refl
 
+begins_in_plus : List ℕ → Bool
+begins_in_plus [] = false
+begins_in_plus (b ∷ bs) = b == 43
+
+no_plus_front : (ps : List Piece) → list_all is_piece ps ≡ true → begins_with_plus ps ≡ false → begins_in_plus (flat_map spelling ps) ≡ false
+unfolding begins_in_plus
+no_plus_front [] a n = refl
+no_plus_front (Written (Word []) ∷ ps) a n = absurd (cc a)
+no_plus_front (Written (Word (b ∷ w)) ∷ ps) a n = plus_no_word b (both _ _ (both _ _ a).0).0
+no_plus_front (Written Increment ∷ ps) a n = cc
+no_plus_front (Written Assign ∷ ps) a n = refl
+no_plus_front (Written Plus ∷ ps) a n = cc
+no_plus_front (Written Minus ∷ ps) a n = refl
+no_plus_front (Written Star ∷ ps) a n = refl
+no_plus_front (Written LeftParen ∷ ps) a n = refl
+no_plus_front (Written RightParen ∷ ps) a n = refl
+no_plus_front (Written LeftBrace ∷ ps) a n = refl
+no_plus_front (Written RightBrace ∷ ps) a n = refl
+no_plus_front (Written Semicolon ∷ ps) a n = refl
+no_plus_front (Blank c ∷ ps) a n = blank_no_plus c (both _ _ a).0
+no_plus_front (LineEnd ∷ ps) a n = refl
+
+plus_alone : (bs : List ℕ) → begins_in_plus bs ≡ false → pieces_in false (43 ∷ bs) ≡ with_piece (Some (Written Plus)) (pieces_in false bs)
+unfolding pieces_in begins_in_plus
+plus_alone [] h = refl
+plus_alone (b ∷ bs) h = rw h refl
+
 -- each list of pieces is found
 pub only_pieces : (ps : List Piece) → list_all is_piece ps ≡ true → are_apart ps ≡ true → pieces_in false (flat_map spelling ps) ≡ Some ps
 unfolding pieces_in is_word_byte is_blank punctuation_of
@@ -167,6 +224,12 @@ only_pieces (Written (Word (b ∷ w)) ∷ ps) a l =
     let apart = both _ _ l in
     at_word b w (flat_map spelling ps) bytes.0 bytes.1 (no_word_front ps all.1 (negated _ apart.0)) ∙ ap (with_piece (Some (Written (Word (b ∷ w))))) (only_pieces ps all.1 apart.1)
 only_pieces (Written Increment ∷ ps) a l = ap (with_piece (Some (Written Increment))) (only_pieces ps a l)
+only_pieces (Written Assign ∷ ps) a l = ap (with_piece (Some (Written Assign))) (only_pieces ps a l)
+only_pieces (Written Plus ∷ ps) a l =
+    let apart = both _ _ l in
+    plus_alone (flat_map spelling ps) (no_plus_front ps a (negated _ apart.0)) ∙ ap (with_piece (Some (Written Plus))) (only_pieces ps a apart.1)
+only_pieces (Written Minus ∷ ps) a l = ap (with_piece (Some (Written Minus))) (only_pieces ps a l)
+only_pieces (Written Star ∷ ps) a l = ap (with_piece (Some (Written Star))) (only_pieces ps a l)
 only_pieces (Written LeftParen ∷ ps) a l = ap (with_piece (Some (Written LeftParen))) (only_pieces ps a l)
 only_pieces (Written RightParen ∷ ps) a l = ap (with_piece (Some (Written RightParen))) (only_pieces ps a l)
 only_pieces (Written LeftBrace ∷ ps) a l = ap (with_piece (Some (Written LeftBrace))) (only_pieces ps a l)

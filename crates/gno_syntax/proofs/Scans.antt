@@ -1,17 +1,15 @@
 -- What a scanner does at a piece.
-use Rattle.std.proofs.Common.{◌≡◌, ℕ, ◌<◌, List, [], ◌∷◌, ◌++◌, ◌==◌, Bool, refl, arith, ap, ◌∙◌, sym, length, take, drop, get_or, ◌≤◌, ◌-◌}
-use Rattle.std.proofs.lemmas.Bool.Decides.{nat_tests}
-use Rattle.std.proofs.lemmas.List.{take_all}
+use Rattle.std.proofs.Common.{◌≡◌, ℕ, ◌<◌, List, [], ◌∷◌, ◌++◌, ◌==◌, Bool, cond, refl, arith, ap, ◌∙◌, sym, length, take, drop, ◌≤◌}
 use Rattle.std.specs.List.{prefix_len}
 use Rattle.std.specs.Prelude.{true, false, Some, None}
 use Rattle.gno_syntax.specs.declared.token.Token.{Token}
-use Rattle.gno_syntax.specs.declared.token.Token.TheVariants.{Word, Increment}
+use Rattle.gno_syntax.specs.declared.token.Token.TheVariants.{Word}
 use Rattle.gno_syntax.specs.declared.tokens.Scanner.{Scanner}
 use Rattle.gno_syntax.specs.Pieces.{is_blank, is_word_byte, begins_in_word}
 use Rattle.gno_syntax.specs.Tokens.{is_closing, semicolon_if, after_mark}
 use Rattle.gno_syntax.specs.Reading.{punctuation_of, tokens_in}
-use Rattle.gno_syntax.specs.Scanning.{HasRead, tokens_with, all_tokens}
-use Rattle.gno_syntax.proofs.TokenSteps.{tokens_blank, tokens_line_end, tokens_end, tokens_word, tokens_punctuation, tokens_other, tokens_increment, tokens_plus_alone, tokens_plus_last}
+use Rattle.gno_syntax.specs.Scanning.{HasRead, tokens_with, all_tokens, plus_token, behind_plus}
+use Rattle.gno_syntax.proofs.TokenSteps.{tokens_blank, tokens_line_end, tokens_end, tokens_word, tokens_punctuation, tokens_other, tokens_plus}
 use Rattle.gno_syntax.proofs.Fronts.{shorter_behind}
 
 same_tokens : (ts ts' : List Token) (c c' : Bool) (rest rest' : List ℕ) → ts' ≡ ts → c' ≡ c → rest' ≡ rest → tokens_with ts c rest ≡ tokens_with ts' c' rest'
@@ -57,24 +55,16 @@ pub is_empty : (text : List ℕ) → length text < 1 → text ≡ []
 is_empty [] h = refl
 is_empty (b ∷ bs) h = absurd (omega arith)
 
-pub read_plus_last : (s s' : Scanner) (rest : List ℕ) → s.rest.now ≡ 43 ∷ rest → length rest < 1 → HasRead s s' false
-read_plus_last s s' rest e h = read_none s s' (ap (tokens_with s.tokens s.is_closed) (e ∙ ap (λ (t : List ℕ). 43 ∷ t) (is_empty rest h)) ∙ tokens_plus_last s.tokens s.is_closed)
+behind_plus_shorter : (rest : List ℕ) → length (behind_plus rest) ≤ length rest
+behind_plus_shorter [] = omega arith
+behind_plus_shorter (b ∷ bs) = elim (b == 43) as (λ t. length (cond t bs (b ∷ bs)) ≤ length (b ∷ bs)) [ true ↦ omega arith | false ↦ omega arith ]
 
-not_same : (b : ℕ) → (b ≡ 43 → ⊥) → (b == 43) ≡ false
-not_same b h = grind (arith, nat_tests)
-
-pub read_plus_alone : (s s' : Scanner) (rest : List ℕ) → s.rest.now ≡ 43 ∷ rest → 1 ≤ length rest → (get_or rest 0 0 ≡ 43 → ⊥) → HasRead s s' false
-read_plus_alone s s' [] e l n = absurd (omega arith)
-read_plus_alone s s' (b ∷ bs) e l n = read_none s s' (ap (tokens_with s.tokens s.is_closed) e ∙ tokens_plus_alone s.tokens s.is_closed b bs (not_same b n))
-
-pub read_increment : (s s' : Scanner) (rest : List ℕ) → s.rest.now ≡ 43 ∷ rest → 1 ≤ length rest → get_or rest 0 0 ≡ 43 → s'.rest.now ≡ take (length rest - 1) (drop 1 rest) →
-    s'.tokens ≡ s.tokens ++ Increment ∷ [] → s'.is_closed ≡ is_closing Increment → HasRead s s' true
-read_increment s s' [] e l n r ts c = absurd (omega arith)
-read_increment s s' (b ∷ bs) e l n r ts c =
-    let one : length (b ∷ bs) - 1 ≡ length bs = omega arith in
-    let tail : s'.rest.now ≡ bs = r ∙ ap (λ (k : ℕ). take k bs) one ∙ take_all (length bs) bs (omega arith) in
-    let text : s.rest.now ≡ 43 ∷ 43 ∷ s'.rest.now = e ∙ cc in
-    read_token s s' Increment (ap (tokens_with s.tokens s.is_closed) text ∙ tokens_increment s.tokens s.is_closed s'.rest.now) ts c (rw text (omega arith))
+pub read_plus : (s s' : Scanner) (rest : List ℕ) → s.rest.now ≡ 43 ∷ rest → s'.rest.now ≡ behind_plus rest → s'.tokens ≡ s.tokens ++ plus_token rest ∷ [] → s'.is_closed ≡ is_closing (plus_token rest) → HasRead s s' true
+read_plus s s' rest e r ts c =
+    let short = behind_plus_shorter rest in
+    let left : length s'.rest.now ≡ length (behind_plus rest) = ap length r in
+    let whole : length s.rest.now ≡ length (43 ∷ rest) = ap length e in
+    read_token s s' (plus_token rest) (ap (tokens_with s.tokens s.is_closed) e ∙ tokens_plus s.tokens s.is_closed rest ∙ ap (tokens_with (s.tokens ++ plus_token rest ∷ []) (is_closing (plus_token rest))) (sym r)) ts c (omega arith)
 
 pub tokens_start : (text : List ℕ) → tokens_with [] false (after_mark text) ≡ tokens_in text
 unfolding tokens_with tokens_in

@@ -2,14 +2,15 @@
 use Rattle.std.proofs.Common.{◌≡◌, ℕ, zero, suc, ◌<◌, ◌≤◌, List, [], ◌∷◌, ◌++◌, length, Bool, true, false, cond, refl, ap, Option, Some, None, arith, codes, not, subst, ◌⊎◌, inl, inr}
 use Rattle.std.proofs.lemmas.Option.{some_pair_parts}
 use Rattle.gno_syntax.specs.declared.token.Token.{Token}
-use Rattle.gno_syntax.specs.declared.token.Token.TheVariants.{Word, Increment, LeftBrace, RightBrace, Semicolon}
+use Rattle.gno_syntax.specs.declared.token.Token.TheVariants.{Word, Increment, Assign, LeftParen, RightParen, LeftBrace, RightBrace, Semicolon}
 use Rattle.gno_syntax.specs.declared.tree.FirstStmt.TheVariants as stmt
 use Rattle.gno_syntax.specs.declared.tree.FirstFunc.{FirstFunc}
-use Rattle.gno_syntax.specs.declared.tree.FirstExpr.TheVariants as expr
-use Rattle.gno_syntax.specs.Form.{result_tokens}
-use Rattle.gno_syntax.specs.Productions.{Found, and_then, at_symbol, at_keyword, symbol, word, keyword, is_new, variable, parameters, has_result, number, found_number, variable_name, expression, return_statement, increment_statement, statement, end_of_statement, one_more, statements, repeats, repeated, block, ends_well, function, with_function, one_more_function}
+use Rattle.gno_syntax.specs.declared.tree.FirstOp.{FirstOp}
+use Rattle.gno_syntax.specs.declared.operand.Operand.{Operand}
+use Rattle.gno_syntax.specs.Form.{result_tokens, operator_token}
+use Rattle.gno_syntax.specs.Productions.{Found, and_then, at_symbol, at_keyword, symbol, word, keyword, is_new, variable, parameters, has_result, number, variable_name, operand_of, operand, operator_at, alone, joined, right_side, behind_operand, expression, return_statement, print_statement, assignment, increment, name_statement, statement, end_of_statement, one_more, statements, repeats, repeated, block, ends_well, function, with_function, one_more_function}
 use Rattle.gno_syntax.proofs.Repeats.{both, Shortens}
-use Rattle.gno_syntax.proofs.Pieces.{holds, symbol_is, word_is, keyword_is, variable_is, parameter_tokens, parameters_is, has_result_is}
+use Rattle.gno_syntax.proofs.Pieces.{holds, where_some_is, symbol_is, word_is, keyword_is, variable_is, parameter_tokens, parameters_is, has_result_is}
 
 -- a production leaves less, or no more, than it is given
 abbrev pub Takes : {A : Type 0} → (List Token → Found A) → Type 0
@@ -46,25 +47,42 @@ end_of_statement_keeps tokens u rest e =
     elim (end_of_statement_is tokens u rest e) [ inl p ↦ let q = p.1 in rw q (omega arith) | inr p ↦ rw p (omega arith) ]
 
 module _ (count : ℕ) (names : List (List ℕ)) where
-  found_number_keeps : (o : Option ℕ) (tokens : List Token) (n : ℕ) (rest : List Token) → found_number o tokens ≡ Some (n, rest) → tokens ≡ rest
-  found_number_keeps None tokens n rest e = cc
-  found_number_keeps (Some m) tokens n rest e = (some_pair_parts m n tokens rest e).1
-
   variable_name_takes : Takes (variable_name count names)
   unfolding variable_name
   variable_name_takes tokens n rest e =
       let a = both (word tokens) _ n rest e in
       let taken = word_takes tokens a.first a.middle a.reads in
-      let p = found_number_keeps (number count names a.first) a.middle n rest a.goes_on in
-      subst (λ ts. length ts < length tokens) p taken
+      let p = where_some_is (number count names a.first) a.middle n rest a.goes_on in
+      subst (λ ts. length ts < length tokens) p.1 taken
+
+  operand_takes : Takes (operand count names)
+  unfolding operand
+  operand_takes tokens x rest e =
+      let a = both (word tokens) _ x rest e in
+      let taken = word_takes tokens a.first a.middle a.reads in
+      let p = where_some_is (operand_of count names a.first) a.middle x rest a.goes_on in
+      subst (λ ts. length ts < length tokens) p.1 taken
+
+  behind_operand_keeps : (left : Operand) (op : Option FirstOp) → Keeps (behind_operand count names left op)
+  unfolding right_side
+  behind_operand_keeps left None tokens x rest e =
+      let q : length tokens ≡ length rest = ap length (some_pair_parts (alone left) x tokens rest e).1 in
+      omega arith
+  behind_operand_keeps left (Some op) tokens x rest e =
+      let a = both (symbol (operator_token op) tokens) _ x rest e in
+      let taken = symbol_takes (operator_token op) tokens a.first a.middle a.reads in
+      let b = both (operand count names a.middle) _ x rest a.goes_on in
+      let more = operand_takes a.middle b.first b.middle b.reads in
+      let q : length b.middle ≡ length rest = ap length (where_some_is (joined left op b.first) b.middle x rest b.goes_on).1 in
+      omega arith
 
   expression_takes : Takes (expression count names)
   unfolding expression
   expression_takes tokens x rest e =
-      let a = both (variable_name count names tokens) _ x rest e in
-      let taken = variable_name_takes tokens a.first a.middle a.reads in
-      let p = (some_pair_parts (expr.Name a.first) x a.middle rest a.goes_on).1 in
-      subst (λ ts. length ts < length tokens) p taken
+      let a = both (operand count names tokens) _ x rest e in
+      let taken = operand_takes tokens a.first a.middle a.reads in
+      let more = behind_operand_keeps a.first (operator_at a.middle) a.middle x rest a.goes_on in
+      omega arith
 
   return_takes : Takes (return_statement count names)
   unfolding return_statement
@@ -77,23 +95,58 @@ module _ (count : ℕ) (names : List (List ℕ)) where
       let q : length b.middle ≡ length rest = ap length p in
       omega arith
 
-  increment_takes : Takes (increment_statement count names)
-  unfolding increment_statement
-  increment_takes tokens x rest e =
+  print_takes : Takes (print_statement count names)
+  unfolding print_statement
+  print_takes tokens x rest e =
+      let a = both (keyword (codes "println") tokens) _ x rest e in
+      let taken = keyword_takes (codes "println") tokens a.first a.middle a.reads in
+      let b = both (symbol LeftParen a.middle) _ x rest a.goes_on in
+      let more = symbol_takes LeftParen a.middle b.first b.middle b.reads in
+      let c = both (expression count names b.middle) _ x rest b.goes_on in
+      let inside = expression_takes b.middle c.first c.middle c.reads in
+      let d = both (symbol RightParen c.middle) _ x rest c.goes_on in
+      let last = symbol_takes RightParen c.middle d.first d.middle d.reads in
+      let q : length d.middle ≡ length rest = ap length (some_pair_parts (stmt.Print c.first) x d.middle rest d.goes_on).1 in
+      omega arith
+
+  assignment_takes : (n : ℕ) → Takes (assignment count names n)
+  unfolding assignment
+  assignment_takes n tokens x rest e =
+      let a = both (symbol Assign tokens) _ x rest e in
+      let taken = symbol_takes Assign tokens a.first a.middle a.reads in
+      let b = both (expression count names a.middle) _ x rest a.goes_on in
+      let more = expression_takes a.middle b.first b.middle b.reads in
+      let q : length b.middle ≡ length rest = ap length (some_pair_parts (stmt.Assign n b.first) x b.middle rest b.goes_on).1 in
+      omega arith
+
+  increment_takes : (n : ℕ) → Takes (increment n)
+  unfolding increment
+  increment_takes n tokens x rest e =
+      let a = both (symbol Increment tokens) _ x rest e in
+      let taken = symbol_takes Increment tokens a.first a.middle a.reads in
+      let q : length a.middle ≡ length rest = ap length (some_pair_parts (stmt.Increment n) x a.middle rest a.goes_on).1 in
+      omega arith
+
+  name_statement_takes : Takes (name_statement count names)
+  unfolding name_statement
+  name_statement_takes tokens x rest e =
       let a = both (variable_name count names tokens) _ x rest e in
       let taken = variable_name_takes tokens a.first a.middle a.reads in
-      let b = both (symbol Increment a.middle) _ x rest a.goes_on in
-      let more = symbol_takes Increment a.middle b.first b.middle b.reads in
-      let p = (some_pair_parts (stmt.Increment a.first) x b.middle rest b.goes_on).1 in
-      let q : length b.middle ≡ length rest = ap length p in
+      let more : length rest < length a.middle =
+      elim (at_symbol Assign a.middle) as (λ b. cond b (assignment count names a.first a.middle) (increment a.first a.middle) ≡ Some (x, rest) → length rest < length a.middle)
+      [ true ↦ λ h. assignment_takes a.first a.middle x rest h | false ↦ λ h. increment_takes a.first a.middle x rest h ] a.goes_on in
       omega arith
 
   pub statement_takes : Takes (statement count names)
   unfolding statement
   statement_takes tokens x rest e =
       elim (at_keyword (codes "return") tokens)
-      as (λ b. cond b (return_statement count names tokens) (increment_statement count names tokens) ≡ Some (x, rest) → length rest < length tokens)
-      [ true ↦ λ h. return_takes tokens x rest h | false ↦ λ h. increment_takes tokens x rest h ] e
+      as (λ b. cond b (return_statement count names tokens) (cond (at_keyword (codes "println") tokens) (print_statement count names tokens) (name_statement count names tokens)) ≡ Some (x, rest)
+      → length rest < length tokens) [
+        | true ↦ λ h. return_takes tokens x rest h
+        | false ↦ elim (at_keyword (codes "println") tokens) as (λ b. cond b (print_statement count names tokens) (name_statement count names tokens) ≡ Some (x, rest) → length rest < length tokens)
+            [ true ↦ λ h. print_takes tokens x rest h | false ↦ λ h. name_statement_takes tokens x rest h ]
+      ] e
 
   pub one_more_takes : Shortens (one_more count names)
   unfolding one_more

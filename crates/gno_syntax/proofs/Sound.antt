@@ -11,7 +11,7 @@ use Rattle.gno_syntax.specs.declared.tree.FirstStmt.TheVariants as stmt
 use Rattle.gno_syntax.specs.declared.tree.FirstExpr.{FirstExpr}
 use Rattle.gno_syntax.specs.Names.{is_name}
 use Rattle.gno_syntax.specs.Lawful.{IsExprIn, IsStmtIn, IsBodyIn, AreFuncsIn, IsLawful, are_distinct}
-use Rattle.gno_syntax.specs.Form.{variable_tokens, result_tokens, IsExpr, named, IsStmt, incremented, returned, IsBody, no_statement, last_statement, next_statement, IsFunc, AreFuncs, no_function, next_function, Reads}
+use Rattle.gno_syntax.specs.Form.{variable_tokens, result_tokens, IsExpr, named, numbered, name_and_name, name_and_number, number_and_name, IsStmt, incremented, assigned, printed, returned, IsBody, no_statement, last_statement, next_statement, IsFunc, AreFuncs, no_function, next_function, Reads}
 use Rattle.gno_syntax.specs.declared.declared.Declared.{Declared}
 use Rattle.gno_syntax.specs.Productions.{Found, and_then, at_symbol, at_keyword, symbol, word, keyword, package_clause, is_new, variable, variables, parameters, has_result, statement, end_of_statement, one_more, statements, repeats, repeated, block, ends_well, function, functions, is_left, with_function, one_more_function, file_in, file_of, value_of}
 use Rattle.gno_syntax.proofs.Repeats.{both}
@@ -27,9 +27,15 @@ AreIn count (s ∷ body) = IsStmtIn count s × AreIn count body
 
 expression_in : (vs : List (List ℕ)) (part : List Token) (e : FirstExpr) → IsExpr vs part e → IsExprIn (length vs) e
 expression_in vs part e (named name n at) = slice_get_within vs n name at
+expression_in vs part e (numbered v small) = small
+expression_in vs part e (name_and_name left right n m op at there) = (slice_get_within vs n left at, slice_get_within vs m right there)
+expression_in vs part e (name_and_number left n v op at small) = (slice_get_within vs n left at, small)
+expression_in vs part e (number_and_name right v n op small at) = (small, slice_get_within vs n right at)
 
 statement_in : (vs : List (List ℕ)) (part : List Token) (s : FirstStmt) → IsStmt vs part s → IsStmtIn (length vs) s
 statement_in vs part s (incremented name n at) = slice_get_within vs n name at
+statement_in vs part s (assigned name n front e at reads) = (slice_get_within vs n name at, expression_in vs front e reads)
+statement_in vs part s (printed front e reads) = expression_in vs front e reads
 statement_in vs part s (returned front e reads) = expression_in vs front e reads
 
 pub body_in : (vs : List (List ℕ)) (part : List Token) (body : List FirstStmt) → IsBody vs part body → AreIn (length vs) body
@@ -42,6 +48,10 @@ lawful_body count false [] all e = tt
 lawful_body count true [] all e = let f : ⊥ = cc in f
 lawful_body count false (stmt.Increment n ∷ body) all e = (all.0, lawful_body count false body all.1 e)
 lawful_body count true (stmt.Increment n ∷ body) all e = (all.0, lawful_body count true body all.1 e)
+lawful_body count false (stmt.Assign n x ∷ body) all e = (all.0, lawful_body count false body all.1 e)
+lawful_body count true (stmt.Assign n x ∷ body) all e = (all.0, lawful_body count true body all.1 e)
+lawful_body count false (stmt.Print x ∷ body) all e = (all.0, lawful_body count false body all.1 e)
+lawful_body count true (stmt.Print x ∷ body) all e = (all.0, lawful_body count true body all.1 e)
 lawful_body count true (stmt.Return x ∷ []) all e = all.0
 lawful_body count false (stmt.Return x ∷ []) all e = let f : ⊥ = cc in f
 lawful_body count true (stmt.Return x ∷ s ∷ body) all e = let f : ⊥ = cc in f

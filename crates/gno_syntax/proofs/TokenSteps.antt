@@ -4,12 +4,12 @@ use Rattle.std.specs.Prelude.{true, false, ◌&&◌, Option, Some, None, option_
 use Rattle.std.specs.List.{prefix_len}
 use Rattle.std.proofs.lemmas.List.{take-append-drop}
 use Rattle.gno_syntax.specs.declared.token.Token.{Token}
-use Rattle.gno_syntax.specs.declared.token.Token.TheVariants.{Word, Increment, Semicolon}
+use Rattle.gno_syntax.specs.declared.token.Token.TheVariants.{Word, Semicolon}
 use Rattle.gno_syntax.specs.Pieces.{Piece, Written, Blank, LineEnd, is_word_byte, is_blank, begins_in_word}
 use Rattle.gno_syntax.specs.Tokens.{is_closing, is_line_over, semicolon_if, with_semicolons}
 use Rattle.gno_syntax.specs.Reading.{punctuation_of, with_piece, pieces_in}
-use Rattle.gno_syntax.specs.Scanning.{tokens_with}
-use Rattle.gno_syntax.proofs.PieceSteps.{at_word, at_line_end, at_blank, at_increment, at_plus_alone, at_plus_last, at_punctuation}
+use Rattle.gno_syntax.specs.Scanning.{tokens_with, plus_token, behind_plus}
+use Rattle.gno_syntax.proofs.PieceSteps.{at_word, at_line_end, at_blank, at_plus, at_punctuation}
 use Rattle.gno_syntax.proofs.Fronts.{take_front, drop_front, front_passes, none_behind}
 
 abbrev all_of : List Token → Bool → Option (List Piece) → Option (List Token)
@@ -46,17 +46,9 @@ pub tokens_blank : (ts : List Token) (c : Bool) (b : ℕ) (rest : List ℕ) → 
 unfolding tokens_with
 tokens_blank ts c b rest h = ap (all_of ts c) (at_blank b rest h) ∙ all_at_blank ts c b (pieces_in false rest)
 
-pub tokens_increment : (ts : List Token) (c : Bool) (rest : List ℕ) → tokens_with ts c (43 ∷ 43 ∷ rest) ≡ tokens_with (ts ++ Increment ∷ []) (is_closing Increment) rest
+pub tokens_plus : (ts : List Token) (c : Bool) (rest : List ℕ) → tokens_with ts c (43 ∷ rest) ≡ tokens_with (ts ++ plus_token rest ∷ []) (is_closing (plus_token rest)) (behind_plus rest)
 unfolding tokens_with
-tokens_increment ts c rest = ap (all_of ts c) (at_increment rest) ∙ all_at_token ts c Increment (pieces_in false rest)
-
-pub tokens_plus_alone : (ts : List Token) (c : Bool) (b : ℕ) (rest : List ℕ) → (b == 43) ≡ false → tokens_with ts c (43 ∷ b ∷ rest) ≡ None
-unfolding tokens_with
-tokens_plus_alone ts c b rest h = ap (all_of ts c) (at_plus_alone b rest h)
-
-pub tokens_plus_last : (ts : List Token) (c : Bool) → tokens_with ts c (43 ∷ []) ≡ None
-unfolding tokens_with
-tokens_plus_last ts c = ap (all_of ts c) at_plus_last
+tokens_plus ts c rest = ap (all_of ts c) (at_plus rest) ∙ all_at_token ts c (plus_token rest) (pieces_in false (behind_plus rest))
 
 pub tokens_punctuation : (ts : List Token) (c : Bool) (b : ℕ) (rest : List ℕ) (t : Token) → (b == 43) ≡ false → is_word_byte b ≡ false → (b == 10) ≡ false → is_blank b ≡ false → punctuation_of b ≡ Some t →
     tokens_with ts c (b ∷ rest) ≡ tokens_with (ts ++ t ∷ []) (is_closing t) rest

@@ -4,13 +4,17 @@ use denote.Ref.{Bor}
 use Rattle.gno_syntax.specs.declared.token.Token.{Token}
 use Rattle.gno_syntax.specs.declared.token.Token.TheVariants as token
 use Rattle.gno_syntax.specs.declared.cursor.Symbol.{Symbol}
-use Rattle.gno_syntax.specs.declared.cursor.Symbol.TheVariants.{Increment, LeftParen, RightParen, LeftBrace, RightBrace, Semicolon}
+use Rattle.gno_syntax.specs.declared.cursor.Symbol.TheVariants.{Increment, Assign, Plus, Minus, Star, LeftParen, RightParen, LeftBrace, RightBrace, Semicolon}
 use Rattle.gno_syntax.specs.declared.fault.FirstFault.{FirstFault}
 use Rattle.gno_syntax.specs.declared.fault.FirstFault.TheVariants.{NotFirst, NoMemory}
 use Rattle.gno_syntax.specs.Productions.{Found}
 
 abbrev pub token_of : Symbol → Token
 token_of Increment = token.Increment
+token_of Assign = token.Assign
+token_of Plus = token.Plus
+token_of Minus = token.Minus
+token_of Star = token.Star
 token_of LeftParen = token.LeftParen
 token_of RightParen = token.RightParen
 token_of LeftBrace = token.LeftBrace

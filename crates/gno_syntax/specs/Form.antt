@@ -1,17 +1,23 @@
 -- The first form of a source file. Go specification, "Source file organization", "Package clause", "Variable declarations", "Function declarations" and "Statements", cut to:
 --     File = "package" name ";" { "var" name "int" ";" } { Func ";" } .
 --     Func = "func" name "(" "cur" "realm" ")" [ "int" ] "{" { Stmt ";" } "}" .
---     Stmt = name "++" | "return" name .
+--     Stmt = name "++" | name "=" Expr | "println" "(" Expr ")" | "return" Expr .
+--     Expr = name | number | name op name | name op number | number op name .
+--     op   = "+" | "-" | "*" .
+-- A number is `0`, or 1 to 18 decimal digits without a leading zero.
 -- A semicolon may be left out before "}".
-use Rattle.std.specs.Prelude.{◌≡◌, ℕ, ◌≤◌, List, [], ◌∷◌, ◌++◌, length, Bool, true, false, Some, slice_get, flat_map, codes}
+use Rattle.std.specs.Prelude.{◌≡◌, ℕ, ◌≤◌, ◌<◌, ◌^◌, List, [], ◌∷◌, ◌++◌, length, Bool, true, false, Some, slice_get, flat_map, codes}
+use Rattle.std.specs.Fmt.{decimal}
 use Rattle.gno_syntax.specs.declared.token.Token.{Token}
-use Rattle.gno_syntax.specs.declared.token.Token.TheVariants.{Word, Increment, LeftParen, RightParen, LeftBrace, RightBrace, Semicolon}
+use Rattle.gno_syntax.specs.declared.token.Token.TheVariants.{Word, Increment, Assign, Plus, Minus, Star, LeftParen, RightParen, LeftBrace, RightBrace, Semicolon}
 use Rattle.gno_syntax.specs.declared.tree.FirstFile.{FirstFile}
 use Rattle.gno_syntax.specs.declared.tree.FirstFunc.{FirstFunc}
 use Rattle.gno_syntax.specs.declared.tree.FirstStmt.{FirstStmt}
 use Rattle.gno_syntax.specs.declared.tree.FirstStmt.TheVariants as stmt
 use Rattle.gno_syntax.specs.declared.tree.FirstExpr.{FirstExpr}
 use Rattle.gno_syntax.specs.declared.tree.FirstExpr.TheVariants as expr
+use Rattle.gno_syntax.specs.declared.tree.FirstOp.{FirstOp}
+use Rattle.gno_syntax.specs.declared.tree.FirstOp.TheVariants.{Add, Sub, Mul}
 use Rattle.gno_syntax.specs.Names.{is_name}
 use Rattle.gno_syntax.specs.Lawful.{IsLawful}
 use Rattle.gno_syntax.specs.Reading.{tokens_in}
@@ -25,13 +31,29 @@ abbrev pub result_tokens : Bool → List Token
 result_tokens true = Word (codes "int") ∷ []
 result_tokens false = []
 
--- an expression: the name of a variable
+-- op = "+" | "-" | "*" .
+abbrev pub operator_token : FirstOp → Token
+operator_token Add = Plus
+operator_token Sub = Minus
+operator_token Mul = Star
+
+-- Expr = name | number | name op name | name op number | number op name .
 pub data IsExpr (variables : List (List ℕ)) : List Token → FirstExpr → Type 0 where
   named : (name : List ℕ) (n : ℕ) → slice_get variables n ≡ Some name → IsExpr variables (Word name ∷ []) (expr.Name n)
+  numbered : (v : ℕ) → v < 10 ^ 18 → IsExpr variables (Word (decimal v) ∷ []) (expr.Number v)
+  name_and_name : (left right : List ℕ) (n m : ℕ) (op : FirstOp) → slice_get variables n ≡ Some left → slice_get variables m ≡ Some right
+      → IsExpr variables (Word left ∷ operator_token op ∷ Word right ∷ []) (expr.NameName n op m)
+  name_and_number : (left : List ℕ) (n v : ℕ) (op : FirstOp) → slice_get variables n ≡ Some left → v < 10 ^ 18
+      → IsExpr variables (Word left ∷ operator_token op ∷ Word (decimal v) ∷ []) (expr.NameNumber n op v)
+  number_and_name : (right : List ℕ) (v n : ℕ) (op : FirstOp) → v < 10 ^ 18 → slice_get variables n ≡ Some right
+      → IsExpr variables (Word (decimal v) ∷ operator_token op ∷ Word right ∷ []) (expr.NumberName v op n)
 
--- Stmt = name "++" | "return" name .
+-- Stmt = name "++" | name "=" Expr | "println" "(" Expr ")" | "return" Expr .
 pub data IsStmt (variables : List (List ℕ)) : List Token → FirstStmt → Type 0 where
   incremented : (name : List ℕ) (n : ℕ) → slice_get variables n ≡ Some name → IsStmt variables (Word name ∷ Increment ∷ []) (stmt.Increment n)
+  assigned : (name : List ℕ) (n : ℕ) (part : List Token) (e : FirstExpr) → slice_get variables n ≡ Some name → IsExpr variables part e
+      → IsStmt variables (Word name ∷ Assign ∷ part) (stmt.Assign n e)
+  printed : (part : List Token) (e : FirstExpr) → IsExpr variables part e → IsStmt variables (Word (codes "println") ∷ LeftParen ∷ (part ++ RightParen ∷ [])) (stmt.Print e)
   returned : (part : List Token) (e : FirstExpr) → IsExpr variables part e → IsStmt variables (Word (codes "return") ∷ part) (stmt.Return e)
 
 -- { Stmt ";" }, where the last semicolon may be left out

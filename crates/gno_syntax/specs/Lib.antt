@@ -1,4 +1,5 @@
 pub mod Names
+pub mod Literals
 pub mod Lawful
 pub mod Reading
 pub mod Form

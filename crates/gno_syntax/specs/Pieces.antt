@@ -2,7 +2,7 @@
 use Rattle.std.specs.Prelude.{ℕ, ◌≡◌, List, [], ◌∷◌, ◌==◌, Bool, true, false, not, ◌&&◌, ◌||◌, codes}
 use Rattle.std.specs.List.{list_all, flat_map}
 use Rattle.gno_syntax.specs.declared.token.Token.{Token}
-use Rattle.gno_syntax.specs.declared.token.Token.TheVariants.{Word, Increment, LeftParen, RightParen, LeftBrace, RightBrace, Semicolon}
+use Rattle.gno_syntax.specs.declared.token.Token.TheVariants.{Word, Increment, Assign, Plus, Minus, Star, LeftParen, RightParen, LeftBrace, RightBrace, Semicolon}
 use Rattle.gno_syntax.specs.Names.{is_letter, is_digit}
 
 pub data Piece : Type 0 where
@@ -25,6 +25,10 @@ is_blank b = b == 32 || (b == 9 || b == 13)
 abbrev pub token_spelling : Token → List ℕ
 token_spelling (Word word) = word
 token_spelling Increment = codes "++"
+token_spelling Assign = codes "="
+token_spelling Plus = codes "+"
+token_spelling Minus = codes "-"
+token_spelling Star = codes "*"
 token_spelling LeftParen = codes "("
 token_spelling RightParen = codes ")"
 token_spelling LeftBrace = codes "{"
@@ -55,10 +59,23 @@ abbrev pub begins_with_word : List Piece → Bool
 begins_with_word [] = false
 begins_with_word (piece ∷ pieces) = is_word_piece piece
 
--- No word stands directly before another: each is as long as it can be.
+abbrev pub begins_with_plus : List Piece → Bool
+begins_with_plus (Written Increment ∷ pieces) = true
+begins_with_plus (Written Plus ∷ pieces) = true
+begins_with_plus pieces = false
+
+-- whether the piece and the front of those behind it are one longer piece
+abbrev pub goes_on : Piece → List Piece → Bool
+goes_on (Written (Word word)) pieces = begins_with_word pieces
+goes_on (Written Plus) pieces = begins_with_plus pieces
+goes_on piece pieces = false
+
+-- No word stands directly before another, and no `+` before a `+` or `++`: each is as long as it can be, read from the left.
+-- `--`, `+=`, `-=`, `*=` and `==`, which are one token each in Go, are two pieces here, of which the first is `=`, `+`, `-` or `*`.
+-- In the first form none but a word comes behind one of these four, so that no text with such a pair is in it.
 abbrev pub are_apart : List Piece → Bool
 are_apart [] = true
-are_apart (piece ∷ pieces) = not (is_word_piece piece && begins_with_word pieces) && are_apart pieces
+are_apart (piece ∷ pieces) = not (goes_on piece pieces) && are_apart pieces
 
 -- the text is these pieces, one behind the other
 pub record ArePieces (text : List ℕ) (pieces : List Piece) : Type 0 where

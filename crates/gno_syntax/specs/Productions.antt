@@ -1,14 +1,20 @@
 -- The productions of the first form, as functions on lists of tokens that read them at the front.
 use Rattle.std.specs.Prelude.{ℕ, zero, suc, List, [], ◌∷◌, ◌++◌, length, take, Bool, true, false, not, ◌&&◌, if◌then◌else◌, Option, Some, None, nat_lt, codes, bytes_eq}
 use Rattle.gno_syntax.specs.declared.token.Token.{Token}
-use Rattle.gno_syntax.specs.declared.token.Token.TheVariants.{Word, Increment, LeftParen, RightParen, LeftBrace, RightBrace, Semicolon}
+use Rattle.gno_syntax.specs.declared.token.Token.TheVariants.{Word, Increment, Assign, Plus, Minus, Star, LeftParen, RightParen, LeftBrace, RightBrace, Semicolon}
 use Rattle.gno_syntax.specs.declared.tree.FirstFile.{FirstFile}
 use Rattle.gno_syntax.specs.declared.tree.FirstFunc.{FirstFunc}
 use Rattle.gno_syntax.specs.declared.tree.FirstStmt.{FirstStmt}
 use Rattle.gno_syntax.specs.declared.tree.FirstStmt.TheVariants as stmt
 use Rattle.gno_syntax.specs.declared.tree.FirstExpr.{FirstExpr}
 use Rattle.gno_syntax.specs.declared.tree.FirstExpr.TheVariants as expr
+use Rattle.gno_syntax.specs.declared.tree.FirstOp.{FirstOp}
+use Rattle.gno_syntax.specs.declared.tree.FirstOp.TheVariants.{Add, Sub, Mul}
+use Rattle.gno_syntax.specs.declared.operand.Operand.{Operand}
+use Rattle.gno_syntax.specs.declared.operand.Operand.TheVariants.{Name, Number}
 use Rattle.gno_syntax.specs.declared.declared.Declared.{Declared}
+use Rattle.gno_syntax.specs.Literals.{literal_of}
+use Rattle.gno_syntax.specs.Form.{operator_token}
 use Rattle.gno_syntax.specs.Names.{is_among, is_name}
 use Rattle.gno_syntax.specs.Places.{place}
 
@@ -38,6 +44,14 @@ unfoldable pub same_symbol : Token → Token → Bool
 same_symbol (Word w) token = false
 same_symbol Increment Increment = true
 same_symbol Increment token = false
+same_symbol Assign Assign = true
+same_symbol Assign token = false
+same_symbol Plus Plus = true
+same_symbol Plus token = false
+same_symbol Minus Minus = true
+same_symbol Minus token = false
+same_symbol Star Star = true
+same_symbol Star token = false
 same_symbol LeftParen LeftParen = true
 same_symbol LeftParen token = false
 same_symbol RightParen RightParen = true
@@ -99,29 +113,93 @@ below count (Some n) = if nat_lt n count then Some n else None
 unfoldable pub number : ℕ → List (List ℕ) → List ℕ → Option ℕ
 number count names name = below count (place name names)
 
-abbrev pub found_number : Option ℕ → List Token → Found ℕ
-found_number None rest = None
-found_number (Some n) rest = Some (n, rest)
+-- the value, where there is one
+unfoldable pub where_some : {A : Type 0} → Option A → List Token → Found A
+where_some None rest = None
+where_some (Some value) rest = Some (value, rest)
 
 -- the name of a variable
 unfoldable pub variable_name : ℕ → List (List ℕ) → List Token → Found ℕ
-variable_name count names tokens = and_then (word tokens) (λ name rest. found_number (number count names name) rest)
+variable_name count names tokens = and_then (word tokens) (λ name rest. where_some (number count names name) rest)
+
+-- a number, or else a variable
+abbrev pub number_or_name : Option ℕ → Option ℕ → Option Operand
+number_or_name (Some v) variable = Some (Number v)
+number_or_name None None = None
+number_or_name None (Some n) = Some (Name n)
+
+-- name | number
+unfoldable pub operand_of : ℕ → List (List ℕ) → List ℕ → Option Operand
+operand_of count names found = number_or_name (literal_of found) (number count names found)
+
+unfoldable pub operand : ℕ → List (List ℕ) → List Token → Found Operand
+operand count names tokens = and_then (word tokens) (λ found rest. where_some (operand_of count names found) rest)
+
+-- the operator that comes next
+unfoldable pub operator_at : List Token → Option FirstOp
+operator_at (Plus ∷ tokens) = Some Add
+operator_at (Minus ∷ tokens) = Some Sub
+operator_at (Star ∷ tokens) = Some Mul
+operator_at tokens = None
+
+abbrev pub alone : Operand → FirstExpr
+alone (Name n) = expr.Name n
+alone (Number v) = expr.Number v
+
+-- two operands, of which one at least is a name
+abbrev pub joined : Operand → FirstOp → Operand → Option FirstExpr
+joined (Name n) op (Name m) = Some (expr.NameName n op m)
+joined (Name n) op (Number v) = Some (expr.NameNumber n op v)
+joined (Number v) op (Name n) = Some (expr.NumberName v op n)
+joined (Number v) op (Number u) = None
+
+-- op (name | number)
+unfoldable pub right_side : ℕ → List (List ℕ) → Operand → FirstOp → List Token → Found FirstExpr
+right_side count names left op tokens =
+    and_then (symbol (operator_token op) tokens) (λ _ a.
+    and_then (operand count names a) (λ right rest. where_some (joined left op right) rest))
+
+abbrev pub behind_operand : ℕ → List (List ℕ) → Operand → Option FirstOp → List Token → Found FirstExpr
+behind_operand count names left None tokens = Some (alone left, tokens)
+behind_operand count names left (Some op) tokens = right_side count names left op tokens
 
 unfoldable pub expression : ℕ → List (List ℕ) → List Token → Found FirstExpr
-expression count names tokens = and_then (variable_name count names tokens) (λ n rest. Some (expr.Name n, rest))
+expression count names tokens = and_then (operand count names tokens) (λ left a. behind_operand count names left (operator_at a) a)
 
 unfoldable pub return_statement : ℕ → List (List ℕ) → List Token → Found FirstStmt
 return_statement count names tokens =
     and_then (keyword (codes "return") tokens) (λ _ a.
     and_then (expression count names a) (λ e rest. Some (stmt.Return e, rest)))
 
-unfoldable pub increment_statement : ℕ → List (List ℕ) → List Token → Found FirstStmt
-increment_statement count names tokens =
-    and_then (variable_name count names tokens) (λ n a.
-    and_then (symbol Increment a) (λ _ rest. Some (stmt.Increment n, rest)))
+-- "println" "(" Expr ")"
+unfoldable pub print_statement : ℕ → List (List ℕ) → List Token → Found FirstStmt
+print_statement count names tokens =
+    and_then (keyword (codes "println") tokens) (λ _ a.
+    and_then (symbol LeftParen a) (λ _ b.
+    and_then (expression count names b) (λ e c.
+    and_then (symbol RightParen c) (λ _ rest. Some (stmt.Print e, rest)))))
+
+-- "=" Expr
+unfoldable pub assignment : ℕ → List (List ℕ) → ℕ → List Token → Found FirstStmt
+assignment count names n tokens =
+    and_then (symbol Assign tokens) (λ _ a.
+    and_then (expression count names a) (λ e rest. Some (stmt.Assign n e, rest)))
+
+-- "++"
+unfoldable pub increment : ℕ → List Token → Found FirstStmt
+increment n tokens = and_then (symbol Increment tokens) (λ _ rest. Some (stmt.Increment n, rest))
+
+abbrev pub behind_name : ℕ → List (List ℕ) → ℕ → List Token → Found FirstStmt
+behind_name count names n tokens = if at_symbol Assign tokens then assignment count names n tokens else increment n tokens
+
+-- name "++" | name "=" Expr
+unfoldable pub name_statement : ℕ → List (List ℕ) → List Token → Found FirstStmt
+name_statement count names tokens = and_then (variable_name count names tokens) (λ n a. behind_name count names n a)
 
 unfoldable pub statement : ℕ → List (List ℕ) → List Token → Found FirstStmt
-statement count names tokens = if at_keyword (codes "return") tokens then return_statement count names tokens else increment_statement count names tokens
+statement count names tokens =
+    if at_keyword (codes "return") tokens then return_statement count names tokens
+    else (if at_keyword (codes "println") tokens then print_statement count names tokens else name_statement count names tokens)
 
 -- ";", which may be left out before "}"
 unfoldable pub end_of_statement : List Token → Found (Unit {0})
@@ -139,6 +217,8 @@ statements count names tokens = repeats (λ ts. not (at_symbol RightBrace ts)) (
 abbrev pub ends_well : Bool → List FirstStmt → Bool
 ends_well has_int [] = not has_int
 ends_well has_int (stmt.Increment n ∷ body) = ends_well has_int body
+ends_well has_int (stmt.Assign n e ∷ body) = ends_well has_int body
+ends_well has_int (stmt.Print e ∷ body) = ends_well has_int body
 ends_well has_int (stmt.Return e ∷ []) = has_int
 ends_well has_int (stmt.Return e ∷ s ∷ body) = false
 

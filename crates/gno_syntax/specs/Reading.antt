@@ -1,7 +1,7 @@
 -- The pieces and the tokens of a text, put together from its end.
 use Rattle.std.specs.Prelude.{ℕ, List, [], ◌∷◌, ◌==◌, Bool, true, false, if◌then◌else◌, Option, Some, None, option_map}
 use Rattle.gno_syntax.specs.declared.token.Token.{Token}
-use Rattle.gno_syntax.specs.declared.token.Token.TheVariants.{Word, Increment, LeftParen, RightParen, LeftBrace, RightBrace, Semicolon}
+use Rattle.gno_syntax.specs.declared.token.Token.TheVariants.{Word, Increment, Assign, Plus, Minus, Star, LeftParen, RightParen, LeftBrace, RightBrace, Semicolon}
 use Rattle.gno_syntax.specs.Pieces.{Piece, Written, Blank, LineEnd, is_word_byte, is_blank}
 use Rattle.gno_syntax.specs.Tokens.{after_mark, with_semicolons}
 
@@ -12,7 +12,10 @@ punctuation_of b =
     else (if b == 41 then Some RightParen
     else (if b == 123 then Some LeftBrace
     else (if b == 125 then Some RightBrace
-    else (if b == 59 then Some Semicolon else None))))
+    else (if b == 59 then Some Semicolon
+    else (if b == 61 then Some Assign
+    else (if b == 45 then Some Minus
+    else (if b == 42 then Some Star else None)))))))
 
 -- the piece of one byte that belongs to no word
 abbrev pub piece_of : ℕ → Option Piece
@@ -28,15 +31,18 @@ abbrev pub lengthened : ℕ → List Piece → List Piece
 lengthened b (Written (Word word) ∷ pieces) = Written (Word (b ∷ word)) ∷ pieces
 lengthened b pieces = Written (Word (b ∷ [])) ∷ pieces
 
+-- a byte before pieces, which is no `+`
+abbrev pub with_byte : ℕ → Option (List Piece) → Option (List Piece)
+with_byte b pieces = if is_word_byte b then option_map (lengthened b) pieces else with_piece (piece_of b) pieces
+
 -- the pieces of a text, where the flag is true of a `+` and the text
 unfoldable pub pieces_in : Bool → List ℕ → Option (List Piece)
 pieces_in false [] = Some []
-pieces_in true [] = None
-pieces_in true (b ∷ bs) = if b == 43 then with_piece (Some (Written Increment)) (pieces_in false bs) else None
-pieces_in false (b ∷ bs) =
-    if b == 43 then pieces_in true bs
-    else (if is_word_byte b then option_map (lengthened b) (pieces_in false bs)
-    else with_piece (piece_of b) (pieces_in false bs))
+pieces_in true [] = Some (Written Plus ∷ [])
+pieces_in true (b ∷ bs) =
+    if b == 43 then with_piece (Some (Written Increment)) (pieces_in false bs)
+    else with_piece (Some (Written Plus)) (with_byte b (pieces_in false bs))
+pieces_in false (b ∷ bs) = if b == 43 then pieces_in true bs else with_byte b (pieces_in false bs)
 
 -- The tokens of a text, where it has tokens. They are those of `IsTokens`.
 unfoldable pub tokens_in : List ℕ → Option (List Token)

@@ -1,4 +1,4 @@
--- The tokens of a text. Go specification, "Tokens" and "Semicolons", cut to words, `++`, parentheses, braces and `;`.
+-- The tokens of a text. Go specification, "Tokens" and "Semicolons", cut to words, `++`, `=`, `+`, `-`, `*`, parentheses, braces and `;`.
 use Rattle.std.specs.Prelude.{ℕ, ◌≡◌, List, [], ◌∷◌, Bool, true, false, not, ◌&&◌, ◌||◌, if◌then◌else◌, codes, take, drop}
 use Rattle.std.specs.Str.{bytes_eq}
 use Rattle.gno_syntax.specs.declared.token.Token.{Token}

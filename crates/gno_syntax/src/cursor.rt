@@ -1,20 +1,38 @@
 // The tokens that are left.
 ghost use Rattle.std.specs.Prelude.{◌≡◌};
 ghost use Rattle.gno_syntax.specs.Cursor.{token_of, Gives, GivesWord};
+ghost use Rattle.gno_syntax.specs.Form.{operator_token};
 ghost use Rattle.gno_syntax.specs.Productions as reader;
 
-use crate::{FirstFault, Token};
+use crate::{FirstFault, FirstOp, Token};
 use std::marker::Model;
 
 /// A token that is no word.
 #[derive(Clone, Copy)]
 pub enum Symbol {
     Increment,
+    Assign,
+    Plus,
+    Minus,
+    Star,
     LeftParen,
     RightParen,
     LeftBrace,
     RightBrace,
     Semicolon,
+}
+
+impl Symbol {
+    /// The symbol that spells the operator.
+    pub fn of_operator(op: FirstOp) -> Symbol
+        ensures { token_of result ≡ operator_token op }
+    {
+        match op {
+            FirstOp::Add => Symbol::Plus,
+            FirstOp::Sub => Symbol::Minus,
+            FirstOp::Mul => Symbol::Star,
+        }
+    }
 }
 
 #[tactic(auto, unfolding(crate::specs::Productions::same_symbol))]
@@ -23,6 +41,10 @@ fn is_symbol(symbol: Symbol, token: &Token) -> bool
 {
     match symbol {
         Symbol::Increment => matches!(token, Token::Increment),
+        Symbol::Assign => matches!(token, Token::Assign),
+        Symbol::Plus => matches!(token, Token::Plus),
+        Symbol::Minus => matches!(token, Token::Minus),
+        Symbol::Star => matches!(token, Token::Star),
         Symbol::LeftParen => matches!(token, Token::LeftParen),
         Symbol::RightParen => matches!(token, Token::RightParen),
         Symbol::LeftBrace => matches!(token, Token::LeftBrace),
@@ -83,6 +105,19 @@ impl<'a> Cursor<'a> {
         match self.left {
             [Token::Word(word), ..] => keyword.as_bytes() == word.as_slice(),
             _ => false,
+        }
+    }
+
+    /// The operator that comes next.
+    #[tactic(auto, unfolding(crate::specs::Productions::operator_at))]
+    pub fn operator(&self) -> Option<FirstOp>
+        ensures { result ≡ reader.operator_at self.now }
+    {
+        match self.left {
+            [Token::Plus, ..] => Some(FirstOp::Add),
+            [Token::Minus, ..] => Some(FirstOp::Sub),
+            [Token::Star, ..] => Some(FirstOp::Mul),
+            _ => None,
         }
     }
 

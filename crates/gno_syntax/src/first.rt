@@ -13,10 +13,12 @@ mod tests;
 use crate::cursor::{Cursor, Symbol};
 use crate::declared::Declared;
 use crate::fault::FirstFault;
+use crate::literals::literal_of;
 use crate::names::is_name;
+use crate::operand::Operand;
 use crate::scope::Scope;
 use crate::tokens::tokens_of;
-use crate::tree::{FirstExpr, FirstFile, FirstFunc, FirstStmt};
+use crate::tree::{FirstExpr, FirstFile, FirstFunc, FirstOp, FirstStmt};
 use gno_base::{Bytes, List};
 use std::alloc::Global;
 
@@ -100,6 +102,15 @@ fn end_of_statement(tokens: &mut Cursor<'_>) -> Result<(), FirstFault>
     tokens.symbol(Symbol::Semicolon)
 }
 
+// "++"
+#[tactic(auto, unfolding(crate::specs::Productions::increment, crate::specs::Productions::and_then))]
+fn increment(tokens: &mut Cursor<'_>, variable: usize) -> Result<FirstStmt, FirstFault>
+    ensures { Gives (reader.increment variable tokens.old) result tokens.new }
+{
+    tokens.symbol(Symbol::Increment)?;
+    Ok(FirstStmt::Increment(variable))
+}
+
 // Whether a `return` stands at the end of a body with a result, and nowhere else.
 fn ends_well(has_int: bool, body: &[FirstStmt]) -> bool
     ensures { result ≡ reader.ends_well has_int body.now }
@@ -121,7 +132,7 @@ struct Reader<'a> {
 }
 
 impl<'a> Reader<'a> {
-    #[tactic(auto, unfolding(crate::specs::Productions::variable_name, crate::specs::Productions::and_then))]
+    #[tactic(auto, unfolding(crate::specs::Productions::variable_name, crate::specs::Productions::and_then, crate::specs::Productions::where_some))]
     fn variable_name(&self, tokens: &mut Cursor<'_>) -> Result<usize, FirstFault>
         ensures { Gives (reader.variable_name self.now.variables self.now.names.now tokens.old) result tokens.new }
     {
@@ -132,14 +143,66 @@ impl<'a> Reader<'a> {
         }
     }
 
+    // name | number
+    #[tactic(auto, unfolding(crate::specs::Productions::operand, crate::specs::Productions::operand_of, crate::specs::Productions::and_then, crate::specs::Productions::where_some))]
+    fn operand(&self, tokens: &mut Cursor<'_>) -> Result<Operand, FirstFault>
+        ensures { Gives (reader.operand self.now.variables self.now.names.now tokens.old) result tokens.new }
+    {
+        let word = tokens.word()?;
+        let Ok(literal) = literal_of(self.alloc, word) else {
+            return Err(FirstFault::NoMemory);
+        };
+        if let Some(number) = literal {
+            return Ok(Operand::Number(number));
+        }
+        match self.names.variable(self.variables, word) {
+            Some(variable) => Ok(Operand::Name(variable)),
+            None => Err(FirstFault::NotFirst),
+        }
+    }
+
+    // op (name | number)
+    #[tactic(auto, unfolding(crate::specs::Productions::right_side, crate::specs::Productions::and_then, crate::specs::Productions::where_some))]
+    fn right_side(
+        &self,
+        tokens: &mut Cursor<'_>,
+        left: Operand,
+        op: FirstOp,
+    ) -> Result<FirstExpr, FirstFault>
+        ensures { Gives (reader.right_side self.now.variables self.now.names.now left op tokens.old) result tokens.new }
+    {
+        tokens.symbol(Symbol::of_operator(op))?;
+        let right = self.operand(tokens)?;
+        match left.joined(op, right) {
+            Some(expression) => Ok(expression),
+            None => Err(FirstFault::NotFirst),
+        }
+    }
+
     #[tactic(auto, unfolding(crate::specs::Productions::expression, crate::specs::Productions::and_then))]
     fn expression(&self, tokens: &mut Cursor<'_>) -> Result<FirstExpr, FirstFault>
         ensures { Gives (reader.expression self.now.variables self.now.names.now tokens.old) result tokens.new }
     {
-        Ok(FirstExpr::Name(self.variable_name(tokens)?))
+        let left = self.operand(tokens)?;
+        match tokens.operator() {
+            Some(op) => self.right_side(tokens, left, op),
+            None => Ok(left.alone()),
+        }
     }
 
-    // "return" name
+    // "println" "(" Expr ")"
+    #[tactic(auto, unfolding(crate::specs::Productions::print_statement, crate::specs::Productions::and_then))]
+    fn print_statement(&self, tokens: &mut Cursor<'_>) -> Result<FirstStmt, FirstFault>
+        ensures { Gives (reader.print_statement self.now.variables self.now.names.now tokens.old) result tokens.new }
+    {
+        tokens.keyword("println")?;
+        tokens.symbol(Symbol::LeftParen)?;
+        let expression = self.expression(tokens)?;
+        tokens.symbol(Symbol::RightParen)?;
+        Ok(FirstStmt::Print(expression))
+    }
+
+    // "return" Expr
     #[tactic(auto, unfolding(crate::specs::Productions::return_statement, crate::specs::Productions::and_then))]
     fn return_statement(&self, tokens: &mut Cursor<'_>) -> Result<FirstStmt, FirstFault>
         ensures { Gives (reader.return_statement self.now.variables self.now.names.now tokens.old) result tokens.new }
@@ -148,14 +211,26 @@ impl<'a> Reader<'a> {
         Ok(FirstStmt::Return(self.expression(tokens)?))
     }
 
-    // name "++"
-    #[tactic(auto, unfolding(crate::specs::Productions::increment_statement, crate::specs::Productions::and_then))]
-    fn increment_statement(&self, tokens: &mut Cursor<'_>) -> Result<FirstStmt, FirstFault>
-        ensures { Gives (reader.increment_statement self.now.variables self.now.names.now tokens.old) result tokens.new }
+    // "=" Expr
+    #[tactic(auto, unfolding(crate::specs::Productions::assignment, crate::specs::Productions::and_then))]
+    fn assignment(&self, tokens: &mut Cursor<'_>, variable: usize) -> Result<FirstStmt, FirstFault>
+        ensures { Gives (reader.assignment self.now.variables self.now.names.now variable tokens.old) result tokens.new }
     {
-        let number = self.variable_name(tokens)?;
-        tokens.symbol(Symbol::Increment)?;
-        Ok(FirstStmt::Increment(number))
+        tokens.symbol(Symbol::Assign)?;
+        Ok(FirstStmt::Assign(variable, self.expression(tokens)?))
+    }
+
+    // name "++" | name "=" Expr
+    #[tactic(auto, unfolding(crate::specs::Productions::name_statement, crate::specs::Productions::and_then))]
+    fn name_statement(&self, tokens: &mut Cursor<'_>) -> Result<FirstStmt, FirstFault>
+        ensures { Gives (reader.name_statement self.now.variables self.now.names.now tokens.old) result tokens.new }
+    {
+        let variable = self.variable_name(tokens)?;
+        if tokens.sees(Symbol::Assign) {
+            self.assignment(tokens, variable)
+        } else {
+            increment(tokens, variable)
+        }
     }
 
     #[tactic(auto, unfolding(crate::specs::Productions::statement))]
@@ -164,8 +239,10 @@ impl<'a> Reader<'a> {
     {
         if tokens.sees_keyword("return") {
             self.return_statement(tokens)
+        } else if tokens.sees_keyword("println") {
+            self.print_statement(tokens)
         } else {
-            self.increment_statement(tokens)
+            self.name_statement(tokens)
         }
     }
 

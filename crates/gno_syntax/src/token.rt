@@ -7,6 +7,14 @@ pub enum Token {
     Word(Bytes),
     /// `++`
     Increment,
+    /// `=`
+    Assign,
+    /// `+`
+    Plus,
+    /// `-`
+    Minus,
+    /// `*`
+    Star,
     LeftParen,
     RightParen,
     LeftBrace,

@@ -3,7 +3,7 @@ ghost use Rattle.std.specs.Prelude.{◌≡◌, ◌↔◌, ◌==◌, List, [], �
 ghost use Rattle.gno_syntax.specs.Pieces.{is_word_byte, is_blank, begins_in_word};
 ghost use Rattle.gno_syntax.specs.Tokens.{after_mark, is_closing, semicolon_if, IsTokens};
 ghost use Rattle.gno_syntax.specs.Reading.{punctuation_of, tokens_in};
-ghost use Rattle.gno_syntax.specs.Scanning.{tokens_with, all_tokens, HasRead};
+ghost use Rattle.gno_syntax.specs.Scanning.{tokens_with, all_tokens, plus_token, behind_plus, HasRead};
 
 #[cfg(test)]
 mod tests;
@@ -16,7 +16,7 @@ use std::alloc::{AllocError, Global};
 const BYTE_ORDER_MARK: [u8; 3] = [0xef, 0xbb, 0xbf];
 
 /// The tokens of a text, the inserted semicolons among them. None where it has other bytes than those of the first
-/// form's tokens, or a `+` alone.
+/// form's tokens.
 pub fn tokens_of(alloc: Global, text: &[u8]) -> Result<Option<List<Token>>, AllocError>
     ensures { IfOk result (λ found. found ≡ tokens_in text.now) }
 {
@@ -67,7 +67,8 @@ impl<'a> Scanner<'a> {
             return Ok(true);
         }
         if b == b'+' {
-            return self.read_increment(rest);
+            self.read_plus(rest)?;
+            return Ok(true);
         }
         if b == b'\n' {
             self.end_line()?;
@@ -93,20 +94,15 @@ impl<'a> Scanner<'a> {
         Ok(())
     }
 
-    /// Reads a `++`, of which `rest` follows the first `+`. False where no other follows.
-    fn read_increment(&mut self, rest: &'a [u8]) -> Result<bool, AllocError>
+    /// Reads a `++`, or a `+` alone. `rest` follows the first `+`.
+    fn read_plus(&mut self, rest: &'a [u8]) -> Result<(), AllocError>
         requires { self.old.rest.now ≡ 43 ∷ rest.now }
-        ensures { IfOk result (λ found. HasRead self.old self.new found) }
+        ensures { OnOk result (HasRead self.old self.new true) }
     {
-        let [next, rest @ ..] = rest else {
-            return Ok(false);
-        };
-        if *next != b'+' {
-            return Ok(false);
-        }
-        self.push(Token::Increment)?;
+        let (token, rest) = front_plus(rest);
+        self.push(token)?;
         self.rest = rest;
-        Ok(true)
+        Ok(())
     }
 
     /// Reads the token that is the byte `b`. False where there is none.
@@ -157,6 +153,17 @@ fn after_mark(text: &[u8]) -> &[u8]
         .unwrap_or(text)
 }
 
+/// The token that a `+` begins, and what stands behind it, where `rest` follows the `+`.
+fn front_plus(rest: &[u8]) -> (Token, &[u8])
+    ensures token { result.0 ≡ plus_token rest.entry.now }
+    ensures rest { result.1.now ≡ behind_plus rest.entry.now }
+{
+    match rest {
+        [b'+', rest @ ..] => (Token::Increment, rest),
+        _ => (Token::Plus, rest),
+    }
+}
+
 #[tactic(auto, unfolding(crate::specs::Pieces::is_blank))]
 fn is_blank(b: u8) -> bool
     ensures { result ≡ is_blank b }
@@ -175,6 +182,9 @@ fn punctuation_of(b: u8) -> Option<Token>
         b'{' => Some(Token::LeftBrace),
         b'}' => Some(Token::RightBrace),
         b';' => Some(Token::Semicolon),
+        b'=' => Some(Token::Assign),
+        b'-' => Some(Token::Minus),
+        b'*' => Some(Token::Star),
         _ => None,
     }
 }
@@ -187,6 +197,7 @@ fn is_closing(token: &Token) -> bool
     match token {
         Token::Word(word) => !is_keyword(word.as_slice()) || is_closing_keyword(word.as_slice()),
         Token::Increment | Token::RightParen | Token::RightBrace => true,
+        Token::Assign | Token::Plus | Token::Minus | Token::Star => false,
         Token::LeftParen | Token::LeftBrace | Token::Semicolon => false,
     }
 }

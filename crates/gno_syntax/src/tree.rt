@@ -22,13 +22,32 @@ pub struct FirstFunc {
 pub enum FirstStmt {
     /// `name++`
     Increment(usize),
-    /// `return name`
+    /// `name = expression`
+    Assign(usize, FirstExpr),
+    /// `println(expression)`
+    Print(FirstExpr),
+    /// `return expression`
     Return(FirstExpr),
 }
 
-/// An expression.
+/// An expression: operands, each a variable or a number below 10^18, and the operator between two of them.
 #[derive(Clone, Copy, Debug, PartialEq, Eq)]
 pub enum FirstExpr {
     /// The value of a variable.
     Name(usize),
+    Number(u64),
+    NameName(usize, FirstOp, usize),
+    NameNumber(usize, FirstOp, u64),
+    NumberName(u64, FirstOp, usize),
+}
+
+/// An operator.
+#[derive(Clone, Copy, Debug, PartialEq, Eq)]
+pub enum FirstOp {
+    /// `+`
+    Add,
+    /// `-`
+    Sub,
+    /// `*`
+    Mul,
 }

@@ -4,7 +4,7 @@ use std::alloc::{AllocError, Global};
 use std::test::Fail;
 
 /// Texts, and the tokens of each before a space.
-const READ: [(&str, &str); 22] = [
+const READ: [(&str, &str); 33] = [
     ("", ""),
     ("\n\n \t\n", ""),
     ("\u{feff}package a\n", "package a ; "),
@@ -30,17 +30,26 @@ const READ: [(&str, &str); 22] = [
     ("var\nint\n", "var int ; "),
     ("returns\nFunc\n", "returns ; Func ; "),
     ("interface\nselect", "interface select "),
+    ("+", "+ "),
+    ("n+", "n + "),
+    ("n+\nm", "n + m ; "),
+    ("n + m", "n + m ; "),
+    ("+++", "++ + "),
+    ("n+++m", "n ++ + m ; "),
+    ("n+ +", "n + + "),
+    ("n = 12 - m", "n = 12 - m ; "),
+    ("n=m*00", "n = m * 00 ; "),
+    ("n =\n-\n*\n", "n = - * "),
+    ("12\nn\n", "12 ; n ; "),
 ];
 
 /// Texts that have other tokens than those of the first form.
-const REFUSED: [&str; 11] = [
-    "+",
-    "n+",
-    "+++",
-    "n+ +",
-    "n+\n+",
+const REFUSED: [&str; 9] = [
     "a // b",
-    "a-b",
+    "a / b",
+    "a := b",
+    "a -> b",
+    "1.5",
     "é",
     "a\u{feff}",
     "\u{0}",
@@ -87,6 +96,10 @@ fn spelling(token: &Token) -> &[u8] {
     match token {
         Token::Word(word) => word.as_slice(),
         Token::Increment => b"++".as_slice(),
+        Token::Assign => b"=".as_slice(),
+        Token::Plus => b"+".as_slice(),
+        Token::Minus => b"-".as_slice(),
+        Token::Star => b"*".as_slice(),
         Token::LeftParen => b"(".as_slice(),
         Token::RightParen => b")".as_slice(),
         Token::LeftBrace => b"{".as_slice(),
