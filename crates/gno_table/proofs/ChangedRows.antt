@@ -12,19 +12,18 @@ use Rattle.gno_port.specs.Keeping.{Puts}
 use Rattle.gno_port.proofs.TableLemmas.{get-applied, latest-append}
 use Rattle.gno_items.specs.declared.memory.Package.{Package}
 use Rattle.gno_items.specs.Memory.{package_of, with_values}
-use Rattle.gno_table.specs.Rows.{all_rows, rows_from, eight_bytes, package_rows, source_row, variable_rows, variable_key, changed_rows, format_row, LeaveSame}
-use Rattle.gno_table.specs.FirstFormat.{Holds, IsFirst, Stands}
-use Rattle.gno_items.specs.Well.{CanHave, has_no_zero, IsWell}
-use Rattle.gno_table.proofs.AddedRows.{IsFirst-same, other_path}
-use Rattle.gno_table.proofs.Zeros.{realm_no_zero, no_zero_same}
 use Rattle.gno_items.proofs.ValueSteps.{valued}
+use Rattle.gno_table.specs.Rows.{all_rows, rows_from, eight_bytes, package_rows, source_row, variable_rows, variable_key, format_row}
+use Rattle.gno_items.specs.Well.{CanHave, has_no_zero, IsWell}
+use Rattle.gno_table.proofs.AddedRows.{other_path}
+use Rattle.gno_table.proofs.Zeros.{realm_no_zero, no_zero_same}
 
 -- a variable's row stands at the key
 abbrev pub touches : List ℕ → List (List ℕ) → List ℕ → Bool
 touches path [] key = false
 touches path (name ∷ names) key = bytes_eq key (variable_key path name) || touches path names key
 
-or_false : (a b : Bool) → a || b ≡ false → (a ≡ false) × (b ≡ false)
+pub or_false : (a b : Bool) → a || b ≡ false → (a ≡ false) × (b ≡ false)
 or_false true b e = cc
 or_false false b e = (refl, e)
 
@@ -55,7 +54,7 @@ pub other_key : (path path' name name' : List ℕ) → has_no_zero path ≡ true
 other_key path path' name name' p q e = no_zero_same path path' name name' p q cc
 
 -- a key of a variable of the path is that of some name
-touches_some : (path : List ℕ) (names : List (List ℕ)) (key : List ℕ) → touches path names key ≡ true → (name : List ℕ) × (key ≡ variable_key path name)
+pub touches_some : (path : List ℕ) (names : List (List ℕ)) (key : List ℕ) → touches path names key ≡ true → (name : List ℕ) × (key ≡ variable_key path name)
 touches_some path [] key e = cc
 touches_some path (n ∷ ns) key e =
     elim (bytes_eq key (variable_key path n)) as (λ t. bytes_eq key (variable_key path n) ≡ t → t || touches path ns key ≡ true → (name : List ℕ) × (key ≡ variable_key path name))
@@ -144,46 +143,3 @@ IsWell-with_values (q ∷ qs) path values w c =
       | true ↦ λ h. (record { realm = w.0.realm; named = w.0.named; reads = w.0.reads; lawful = w.0.lawful; count = h.0; ints = h.1 }, w.1, w.2)
       | false ↦ λ h. (w.0, package_of-with_values qs path q.path values w.1, IsWell-with_values qs path values w.2 h)
     ] c
-
-pub changed_holds : (table : Table) (memory : List Package) (path : List ℕ) (p : Package) (values : List Number) → IsWell memory → package_of memory path ≡ Some p → length values ≡ length p.file.variables →
-    Holds table (all_rows memory) → Holds (applied (variable_rows path p.file.variables values) table) (all_rows (with_values memory path values))
-changed_holds table memory path p values w e l h key =
-    get-applied (variable_rows path p.file.variables values) table key ∙ ap (latest (variable_rows path p.file.variables values) key) (h key)
-    ∙ overwritten 0 memory path p values key (latest (format_row ∷ []) key None) w e l
-
-none_held : (memory : List Package) (path : List ℕ) (p : Package) → memory ≡ [] → package_of memory path ≡ Some p → ⊥
-none_held [] path p z e = cc
-none_held (q ∷ qs) path p z e = cc
-
-length-with_values : (ps : List Package) (path : List ℕ) (values : List Number) → length (with_values ps path values) ≡ length ps
-length-with_values [] path values = refl
-length-with_values (q ∷ qs) path values = elim (bytes_eq q.path path) as (λ t. length (cond t (valued q values ∷ qs) (q ∷ with_values qs path values)) ≡ length (q ∷ qs)) [ true ↦ refl | false ↦ ap suc (length-with_values qs path values) ]
-
-few_still : (ps : List Package) (path : List ℕ) (values : List Number) → length ps < 2 ^ 63 → length (with_values ps path values) < 2 ^ 63
-few_still ps path values h = subst (λ (n : ℕ). n < 2 ^ 63) (sym (length-with_values ps path values)) h
-
-first_with_values : (table : Table) (memory : List Package) (path : List ℕ) (p : Package) (values : List Number) → package_of memory path ≡ Some p → length values ≡ length p.file.variables → IsWell (with_values memory path values) →
-    IsFirst table memory → IsFirst (applied (variable_rows path p.file.variables values) table) (with_values memory path values)
-first_with_values table memory path p values e l w f = record {
-  well = w;
-  few = few_still memory path values f.few;
-  rows = elim f.rows [ inl h ↦ inl (changed_holds table memory path p values f.well e l h) | inr h ↦ absurd (none_held memory path p h.0 e) ];
-}
-
-stands_with : (o : Option Table) (memory : List Package) (path : List ℕ) (values : List Number) (changes : List Change) (found : Option Package) → package_of memory path ≡ found → IsSome found → IfSome found (λ p. CanHave p values) →
-    IsWell (with_values memory path values) → Stands o memory → LeaveSame changes (changed_rows found path values) → Stands (option_map (applied changes) o) (with_values memory path values)
-stands_with None memory path values changes found e is can w s same = (w, few_still memory path values s.1)
-stands_with (Some table) memory path values changes None e is can w s same = cc
-stands_with (Some table) memory path values changes (Some p) e is can w s same =
-    IsFirst-same changes (variable_rows path p.file.variables values) table (with_values memory path values) same (first_with_values table memory path p values e can.0 w s)
-
-well_of : (o : Option Table) (memory : List Package) → Stands o memory → IsWell memory
-well_of None memory s = s.0
-well_of (Some table) memory s = s.well
-
-pub stands_changed : (old new : List ℕ → Option Table) (name name' : List ℕ) (changes : List Change) (memory memory' : List Package) (path : List ℕ) (values : List Number) →
-    Stands (old name) memory → IsSome (package_of memory path) → IfSome (package_of memory path) (λ p. CanHave p values) → Puts old new name changes → name' ≡ name →
-    LeaveSame changes (changed_rows (package_of memory path) path values) → memory' ≡ with_values memory path values → Stands (new name') memory'
-stands_changed old new name name' changes memory memory' path values s is can puts same leave after =
-    rw (same, after, puts.open_table)
-    (stands_with (old name) memory path values changes (package_of memory path) refl is can (IsWell-with_values memory path values (well_of (old name) memory s) can) s leave)

@@ -4,3 +4,8 @@ pub mod ChangedRows
 pub mod Lookups
 pub mod OneMemory
 pub mod RowsSoFar
+pub mod DifferingRows
+pub mod RisingRows
+pub mod SourceRows
+pub mod Searches
+pub mod FoundPackages

@@ -24,7 +24,7 @@ use Rattle.gno_table.proofs.Lookups.{latest_source, latest_variable, no_source, 
 use Rattle.gno_table.specs.Reading.{or_before}
 use Rattle.gno_table.proofs.Zeros.{no_zero_same, realm_no_zero}
 
-some_one : {A : Type 0} (a b : A) → Some a ≡ Some b → a ≡ b
+pub some_one : {A : Type 0} (a b : A) → Some a ≡ Some b → a ≡ b
 some_one a b e = cc
 
 among_front : (x : List ℕ) (xs b : List (List ℕ)) → is_among (xs ++ b) x ≡ false → is_among xs x ≡ false
@@ -49,7 +49,7 @@ int_one a b ia ib e =
     let k : a.kind ≡ b.kind = ia.0 ∙ sym ib.0 in
     λ i. record { kind = k i; value = v i }
 
-not_named : (names : List (List ℕ)) (values : List Number) (name : List ℕ) (before : Option (List ℕ)) → is_among names name ≡ false → value_named names values name before ≡ before
+pub not_named : (names : List (List ℕ)) (values : List Number) (name : List ℕ) (before : Option (List ℕ)) → is_among names name ≡ false → value_named names values name before ≡ before
 not_named [] values name before e = refl
 not_named (n ∷ ns) [] name before e = refl
 not_named (n ∷ ns) (v ∷ vs) name before e =
@@ -59,7 +59,7 @@ not_named (n ∷ ns) (v ∷ vs) name before e =
 same_name : (name : List ℕ) → bytes_eq name name ≡ true
 same_name name = (bytes_eq-Decides name name).1 refl
 
-distinct_head : (a b : Bool) → not a && b ≡ true → (a ≡ false) × (b ≡ true)
+pub distinct_head : (a b : Bool) → not a && b ≡ true → (a ≡ false) × (b ≡ true)
 distinct_head true b e = cc
 distinct_head false b e = (refl, e)
 
@@ -121,7 +121,7 @@ later_order (q ∷ qs) order path value e =
       | false ↦ λ h. let t = later_order qs (order + 1) path value h in (t.0, t.1, (omega (arith, t.2.0), omega (arith, t.2.1), t.2.2))
     ] e
 
-distinct_front : (a b : List (List ℕ)) → are_distinct (a ++ b) ≡ true → are_distinct a ≡ true
+pub distinct_front : (a b : List (List ℕ)) → are_distinct (a ++ b) ≡ true → are_distinct a ≡ true
 distinct_front [] b e = refl
 distinct_front (x ∷ xs) b e =
     let t = distinct_head (is_among (xs ++ b) x) (are_distinct (xs ++ b)) e in

@@ -1,5 +1,5 @@
 -- The first format of a table, as a relation between a table and the packages that it stores.
-use Rattle.std.specs.Prelude.{ℕ, ◌≡◌, ◌<◌, ◌^◌, List, [], Option, Some, None, ◌⊎◌, length}
+use Rattle.std.specs.Prelude.{ℕ, ◌≡◌, ◌<◌, ◌^◌, List, [], Option, Some, None, ◌⊎◌, ⊤, length}
 use Rattle.std.specs.FinMap.{get}
 use Rattle.gno_port.specs.declared.keeper.Change.{Change}
 use Rattle.gno_port.specs.Tables.{Table, latest}
@@ -21,6 +21,11 @@ pub record IsFirst (table : Table) (memory : List Package) : Type 0 where
 abbrev pub Stands : Option Table → List Package → Type 0
 Stands None memory = IsWell memory × (length memory < 2 ^ 63)
 Stands (Some table) memory = IsFirst table memory
+
+-- The open table is not of the first format, whatever the memory, where the keeper tells it.
+abbrev pub IsNotFirst : Option Table → Type 0
+IsNotFirst None = ⊤
+IsNotFirst (Some table) = (memory : List Package) → IsFirst table memory → ⊥
 
 -- the rows of the table, where it is told
 abbrev pub Reads : Option Table → List Change → Type 0

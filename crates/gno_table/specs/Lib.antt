@@ -1,3 +1,5 @@
 pub mod Rows
 pub mod FirstFormat
+pub mod Sources
+pub mod Loading
 pub mod Reading

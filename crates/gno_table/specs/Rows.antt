@@ -1,5 +1,5 @@
 -- The rows of the packages that are held, in the first format of a table. This project's own.
-use Rattle.std.specs.Prelude.{ℕ, ◌≡◌, ◌+◌, List, [], ◌∷◌, ◌++◌, Option, Some, None, length, nat_eq, if◌then◌else◌}
+use Rattle.std.specs.Prelude.{ℕ, ◌≡◌, ◌+◌, List, [], ◌∷◌, ◌++◌, Option, Some, None, Bool, length, nat_eq, if◌then◌else◌}
 use Rattle.std.specs.Int.{to_be_bytes, cast_unsigned, w64}
 use Rattle.gno_base.specs.Number.{Number}
 use Rattle.gno_port.specs.declared.keeper.Change.{Change}
@@ -53,10 +53,23 @@ added_rows_at order p = (if nat_eq order 0 then format_row ∷ [] else []) ++ pa
 abbrev pub added_rows : List Package → Package → List Change
 added_rows memory p = added_rows_at (length memory) p
 
+-- two numbers have the same 64 bits
+abbrev pub same_word : Number → Number → Bool
+same_word a b = nat_eq (cast_unsigned w64 a.value) (cast_unsigned w64 b.value)
+
+-- the rows of the variables whose values differ, with the new ones
+abbrev pub differing_rows : List ℕ → List (List ℕ) → List Number → List Number → List Change
+differing_rows path [] old new = []
+differing_rows path (name ∷ names) [] new = []
+differing_rows path (name ∷ names) (o ∷ old) [] = []
+differing_rows path (name ∷ names) (o ∷ old) (value ∷ new) =
+    if same_word o value then differing_rows path names old new
+    else row (variable_key path name) (eight_bytes (cast_unsigned w64 value.value)) ∷ differing_rows path names old new
+
 -- the rows that a call writes
 abbrev pub changed_rows : Option Package → List ℕ → List Number → List Change
 changed_rows None path values = []
-changed_rows (Some p) path values = variable_rows path p.file.variables values
+changed_rows (Some p) path values = differing_rows path p.file.variables p.values values
 
 -- changes that leave the same at each key
 abbrev pub LeaveSame : List Change → List Change → Type 0

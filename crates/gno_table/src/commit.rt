@@ -4,11 +4,11 @@ ghost use Rattle.gno_machine.specs.Ints.{AreInts};
 ghost use Rattle.gno_port.specs.Causes.{Rose};
 ghost use Rattle.gno_port.specs.Tables.{IsRising};
 ghost use Rattle.gno_items.specs.Memory.{package_of, with_values};
-ghost use Rattle.gno_items.specs.Well.{CanHave, IsWellPackage};
+ghost use Rattle.gno_items.specs.Well.{CanHave, IsWell, IsWellPackage};
 ghost use Rattle.gno_table.specs.Rows.{LeaveSame, added_rows_at, added_rows, changed_rows};
 ghost use Rattle.gno_table.specs.FirstFormat.{Stands};
 
-use crate::rows::{put_format, put_package, put_variables};
+use crate::rows::{put_differing, put_format, put_package};
 use gno_base::{List, Whole};
 use gno_items::{Package, Packages};
 use gno_port::{Batch, Changes, KeepFault, Keeper};
@@ -105,17 +105,19 @@ fn changed_batch(
     path: &[u8],
     values: &[Whole],
 ) -> Result<Batch, AllocError>
+    requires well { IsWell packages.now }
     requires can { IfSome (package_of packages.now path.now) (λ p. CanHave p values.now) }
     ensures rows { IfOk result (λ batch. LeaveSame batch.changes (changed_rows (package_of packages.now path.now) path.now values.now)) }
     ensures rising { IfOk result (λ batch. IsRising batch.changes) }
 {
     let mut changes = Changes::new(alloc);
     if let Some(held) = packages.find(path) {
-        put_variables(
+        put_differing(
             alloc,
             &mut changes,
             path,
             held.file.variables.as_slice(),
+            held.values.as_slice(),
             values,
         )?;
     }

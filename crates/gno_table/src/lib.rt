@@ -6,6 +6,8 @@ mod loading;
 mod reading;
 mod rows;
 mod sources;
+#[cfg(test)]
+mod tests;
 
 pub use commit::{add_package, store_values};
 pub use loading::{LoadFault, load, one_memory};

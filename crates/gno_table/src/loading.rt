@@ -1,13 +1,17 @@
 // Loading the packages that a table stores.
-ghost use Rattle.std.specs.Prelude.{◌≡◌, ◌≤◌, true, length, List, Option, IfOk, IfSome, IsErrOf, Some};
+ghost use Rattle.std.specs.Prelude.{◌≡◌, ◌≢◌, [], ◌<◌, ◌≤◌, ◌^◌, ◌↔◌, ℕ, true, length, List, Option, IfOk, IfSome, IsErrOf, IsTrue, Some, None};
+ghost use Rattle.std.specs.Option.{option_copied};
+ghost use Rattle.gno_base.specs.Number.{Number};
 ghost use Rattle.gno_base.specs.Paths.{kind_of};
 ghost use Rattle.gno_base.specs.declared.path.PathKind.TheVariants.{Realm};
 ghost use Rattle.gno_machine.specs.Ints.{AreInts};
 ghost use Rattle.gno_port.specs.Causes.{Rose};
-ghost use Rattle.gno_port.specs.Tables.{Table};
+ghost use Rattle.gno_port.specs.Tables.{Table, IsRising, latest};
 ghost use Rattle.gno_items.specs.Well.{has_no_zero, IsWell, IsWellPackage};
 ghost use Rattle.gno_table.specs.Rows.{LeaveSame, all_rows};
-ghost use Rattle.gno_table.specs.FirstFormat.{IsFirst, Reads, Stands};
+ghost use Rattle.gno_table.specs.FirstFormat.{IsFirst, IsNotFirst, Reads, Stands};
+ghost use Rattle.gno_table.specs.Loading.{AreRowsOf, IsAmong, StandAmong};
+ghost use Rattle.gno_table.specs.Sources.{whole_word, word_at, word_in};
 ghost use Rattle.gno_items.specs.declared.memory.Package.{Package};
 
 use crate::reading::read_rows;
@@ -18,6 +22,9 @@ use gno_items::{Package, Packages};
 use gno_port::{Batch, Change, Changes, KeepFault, Keeper};
 use gno_syntax::{FirstFault, FirstFile, first_form};
 use std::alloc::{AllocError, Global};
+
+// A table of so many packages is not loaded: the answer is want of memory.
+const MOST_PACKAGES: u64 = 1 << 62;
 
 /// Why the packages of a table were not loaded.
 #[derive(Clone, Copy, Debug, PartialEq, Eq)]
@@ -32,10 +39,12 @@ pub enum LoadFault {
 #[derive(Clone, Copy, Debug, PartialEq, Eq)]
 struct NoMemory;
 
-/// Reads all rows of the open table, and gives the packages that they store. The tables stay as they are.
+/// Reads all rows of the open table, and gives the packages that they store. `Damaged` comes only where a table that
+/// the keeper tells is not of the first format. The tables stay as they are.
 pub fn load<K: Keeper>(alloc: Global, keeper: &mut K) -> Result<Packages, LoadFault>
     requires { K.is_open keeper.old ≡ true }
     ensures stands { IfOk result (λ packages. Stands (K.tables keeper.old (K.open_name keeper.old)) packages) }
+    ensures damaged { IsErrOf result LoadFault.Damaged → IsNotFirst (K.tables keeper.old (K.open_name keeper.old)) }
     ensures tables { K.tables keeper.new ≡ K.tables keeper.old }
     ensures open { (K.is_open keeper.new ≡ true) × (K.open_name keeper.new ≡ K.open_name keeper.old) }
     ensures cause { IsErrOf result LoadFault.Failed → Rose (K.faults keeper.old) (K.faults keeper.new) }
@@ -61,6 +70,8 @@ pub fn one_memory()
 // The packages whose rows these are.
 fn packages_of(alloc: Global, rows: &[Change]) -> Result<Option<Packages>, NoMemory>
     ensures stands { IfOk result (λ found. IfSome found (λ packages. (told : Option Table) → Reads told rows.now → Stands told packages)) }
+    ensures finds { IfOk result (λ found. found ≡ None → (memory : List Package) → AreRowsOf rows.now memory → ⊥) }
+    ensures empty { IfOk result (λ found. found ≡ None → rows.now ≢ []) }
 {
     if rows.is_empty() {
         return Ok(Some(Packages::new(alloc)));
@@ -68,9 +79,6 @@ fn packages_of(alloc: Global, rows: &[Change]) -> Result<Option<Packages>, NoMem
     let Some(packages) = guess(alloc, rows)? else {
         return Ok(None);
     };
-    if packages.len() >= MOST_PACKAGES {
-        return Err(NoMemory);
-    }
     let Ok(batch) = all_rows(alloc, packages.as_slice()) else {
         return Err(NoMemory);
     };
@@ -84,7 +92,8 @@ fn packages_of(alloc: Global, rows: &[Change]) -> Result<Option<Packages>, NoMem
 // All rows of the packages, in the order of their keys.
 fn all_rows(alloc: Global, packages: &[Package]) -> Result<Batch, AllocError>
     requires { IsWell packages.now }
-    ensures { IfOk result (λ batch. LeaveSame batch.changes (all_rows packages.now)) }
+    ensures rows { IfOk result (λ batch. LeaveSame batch.changes (all_rows packages.now)) }
+    ensures rising { IfOk result (λ batch. IsRising batch.changes) }
 {
     let mut changes = Changes::new(alloc);
     put_format(alloc, &mut changes)?;
@@ -95,7 +104,7 @@ fn all_rows(alloc: Global, packages: &[Package]) -> Result<Batch, AllocError>
 }
 
 fn are_same(left: &[Change], right: &[Change]) -> bool
-    ensures { result ≡ true → left.now ≡ right.now }
+    ensures { IsTrue result ↔ (left.now ≡ right.now) }
 {
     if left.len() != right.len() {
         return false;
@@ -109,7 +118,7 @@ fn are_same(left: &[Change], right: &[Change]) -> bool
 }
 
 fn is_same(left: &Change, right: &Change) -> bool
-    ensures { result ≡ true → left.now ≡ right.now }
+    ensures { IsTrue result ↔ (left.now ≡ right.now) }
 {
     if left.key.as_slice() != right.key.as_slice() {
         return false;
@@ -121,32 +130,38 @@ fn is_same(left: &Change, right: &Change) -> bool
     }
 }
 
-// Packages that may be those of the rows, by the order of their sources.
+// The packages of the sources whose orders count up from 0. Rows of the first format have these packages and no others.
 #[tactic(auto, using(crate::proofs::AddedRows::well_append))]
 fn guess(alloc: Global, rows: &[Change]) -> Result<Option<Packages>, NoMemory>
-    ensures { IfOk result (λ found. IfSome found (λ packages. IsWell packages)) }
+    ensures well { IfOk result (λ found. IfSome found (λ packages. IsWell packages)) }
+    ensures few { IfOk result (λ found. IfSome found (λ packages. length packages < 2 ^ 63)) }
+    ensures finds { IfOk result (λ found. (memory : List Package) → AreRowsOf rows.now memory → found ≡ Some memory) }
 {
-    let Ok(sources) = sources_of(alloc, rows) else {
+    let Ok(mut sources) = sources_of(alloc, rows) else {
         return Err(NoMemory);
     };
     let mut packages = Packages::new(alloc);
-    for (_order, source) in sources {
+    for order in 0..MOST_PACKAGES {
+        let Some(source) = sources.remove(&order) else {
+            return Ok(Some(packages));
+        };
         let Some(held) = package_of(alloc, rows, source)? else {
             return Ok(None);
         };
         if packages.find(held.path.as_slice()).is_some() {
             return Ok(None);
         }
-        if packages.push(held).is_err() {
+        let Ok(()) = packages.push(held) else {
             return Err(NoMemory);
-        }
+        };
     }
-    Ok(Some(packages))
+    Err(NoMemory)
 }
 
 // The package of a source, with the values that its variables' rows say.
 fn package_of(alloc: Global, rows: &[Change], source: Source) -> Result<Option<Package>, NoMemory>
-    ensures { IfOk result (λ found. IfSome found (λ held. IsWellPackage held)) }
+    ensures well { IfOk result (λ found. IfSome found (λ held. IsWellPackage held)) }
+    ensures finds { IfOk result (λ found. (p : Package) → IsAmong rows.now p → source.path ≡ p.path → source.file ≡ p.source → found ≡ Some p) }
 {
     let Source {
         order: _,
@@ -176,7 +191,7 @@ fn package_of(alloc: Global, rows: &[Change], source: Source) -> Result<Option<P
 }
 
 fn is_realm(alloc: Global, path: &[u8]) -> Result<bool, NoMemory>
-    ensures { IfOk result (λ realm. realm ≡ true → kind_of path.now ≡ Some Realm) }
+    ensures { IfOk result (λ realm. IsTrue realm ↔ (kind_of path.now ≡ Some Realm)) }
 {
     match Path::read(alloc, path) {
         Ok(
@@ -206,6 +221,7 @@ fn values_of(
 ) -> Result<Option<List<Whole>>, AllocError>
     ensures count { IfOk result (λ found. IfSome found (λ values. length values ≡ length names.now)) }
     ensures ints { IfOk result (λ found. IfSome found (λ values. AreInts values)) }
+    ensures finds { IfOk result (λ found. IsRising rows.now → (values : List Number) → StandAmong rows.now path.now names.now values → found ≡ Some values) }
 {
     let mut values = List::<Whole>::new(alloc);
     for name in names {
@@ -218,15 +234,29 @@ fn values_of(
     Ok(Some(values))
 }
 
-fn word_of(rows: &[Change], key: &[u8]) -> Option<u64> {
+// The number in the row of a key, where the row has 8 bytes.
+fn word_of(rows: &[Change], key: &[u8]) -> Option<u64>
+    ensures { IsRising rows.now → result ≡ word_in (latest rows.now key.now None) }
+{
+    let value = value_at(rows, key)?;
+    whole_word(value.as_slice())
+}
+
+// The value in the row of a key.
+fn value_at<'a>(rows: &'a [Change], key: &[u8]) -> Option<&'a Bytes>
+    ensures { IsRising rows.now → option_copied result ≡ latest rows.now key.now None }
+{
     let at = rows
         .binary_search_by(|row| row.key.as_slice().cmp(key))
         .ok()?;
-    let value = rows.get(at)?.value.as_ref()?;
-    match word_at(value.as_slice()) {
+    rows[at].value.as_ref()
+}
+
+fn whole_word(bytes: &[u8]) -> Option<u64>
+    ensures { result ≡ whole_word (word_at bytes.now) }
+{
+    match word_at(bytes) {
         Some((word, [])) => Some(word),
         _ => None,
     }
 }
-
-const MOST_PACKAGES: usize = 1 << 62;

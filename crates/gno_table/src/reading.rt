@@ -2,7 +2,7 @@
 ghost use Rattle.std.specs.Prelude.{◌≡◌, ◌≤◌, ◌++◌, ◌∷◌, [], true, IfOk, IsErrOf, OnOk};
 ghost use Rattle.gno_port.specs.Causes.{Rose};
 ghost use Rattle.gno_table.specs.FirstFormat.{Reads};
-ghost use Rattle.gno_table.specs.Reading.{IsRowAdded};
+ghost use Rattle.gno_table.specs.Reading.{AreInOrder, IsRowAdded};
 
 use gno_base::{Bytes, List};
 use gno_port::{Change, KeepFault, Keeper};
@@ -12,6 +12,7 @@ use std::alloc::Global;
 pub(crate) fn read_rows<K: Keeper>(alloc: Global, keeper: &mut K) -> Result<List<Change>, KeepFault>
     requires { K.is_open keeper.old ≡ true }
     ensures rows { IfOk result (λ rows. Reads (K.tables keeper.old (K.open_name keeper.old)) rows) }
+    ensures order { IfOk result (λ rows. AreInOrder (K.tables keeper.old (K.open_name keeper.old)) rows) }
     ensures tables { K.tables keeper.new ≡ K.tables keeper.old }
     ensures open { (K.is_open keeper.new ≡ true) × (K.open_name keeper.new ≡ K.open_name keeper.old) }
     ensures cause { IsErrOf result KeepFault.Failed → Rose (K.faults keeper.old) (K.faults keeper.new) }

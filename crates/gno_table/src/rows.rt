@@ -3,7 +3,7 @@ ghost use Rattle.std.specs.Prelude.{◌≡◌, ◌∷◌, [], length, IfOk, OnOk
 ghost use Rattle.std.specs.Int.{cast_unsigned, w64};
 ghost use Rattle.gno_base.specs.declared.kind.Kind.TheVariants.{Int};
 ghost use Rattle.gno_machine.specs.Ints.{AreInts};
-ghost use Rattle.gno_table.specs.Rows.{Writes, eight_bytes, format_row, package_rows, row, source_key, source_row, variable_key, variable_rows};
+ghost use Rattle.gno_table.specs.Rows.{Writes, differing_rows, eight_bytes, format_row, package_rows, row, source_key, source_row, variable_key, variable_rows};
 
 use gno_base::{Bytes, Whole};
 use gno_items::Package;
@@ -65,6 +65,30 @@ pub(crate) fn put_variables(
 {
     for (index, name) in names.iter().enumerate() {
         put_variable(alloc, changes, path, name.as_slice(), values[index])?;
+    }
+    Ok(())
+}
+
+/// Puts the rows of the variables whose values differ, with the new ones.
+pub(crate) fn put_differing(
+    alloc: Global,
+    changes: &mut Changes,
+    path: &[u8],
+    names: &[Bytes],
+    old: &[Whole],
+    new: &[Whole],
+) -> Result<(), AllocError>
+    requires old { length old.now ≡ length names.now }
+    requires new { length new.now ≡ length names.now }
+    requires old_ints { AreInts old.now }
+    requires new_ints { AreInts new.now }
+    ensures { OnOk result (Writes changes.old changes.new (differing_rows path.now names.now old.now new.now)) }
+{
+    for (index, name) in names.iter().enumerate() {
+        let value = new[index];
+        if old[index].word() != value.word() {
+            put_variable(alloc, changes, path, name.as_slice(), value)?;
+        }
     }
     Ok(())
 }

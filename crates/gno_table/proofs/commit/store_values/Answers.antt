@@ -3,7 +3,7 @@ use Rattle.gno_base.specs.Number.{Number}
 use Rattle.gno_port.specs.Tables.{latest}
 use Rattle.gno_items.specs.Memory.{package_of}
 use Rattle.gno_table.specs.Rows.{LeaveSame, changed_rows}
-use Rattle.gno_table.proofs.ChangedRows.{stands_changed}
+use Rattle.gno_table.proofs.DifferingRows.{stands_changed}
 use Rattle.gno_table.proofs.commit.store_values.Goals as goal
 
 pub returns-clause-stands : goal.returns-clause-stands

@@ -1,9 +1,10 @@
-use Rattle.std.proofs.Common.{◌≡◌, ◌∙◌, subst, sym, arith, List, ℕ}
+use Rattle.std.proofs.Common.{◌≡◌, ◌∙◌, [], subst, sym, arith, List, ℕ}
+use Rattle.gno_port.specs.declared.keeper.Change.{Change}
 use Rattle.std.specs.Prelude.{Option, Some}
 use Rattle.gno_port.specs.Tables.{Table}
 use Rattle.gno_port.specs.Keeping.{NextKey}
 use Rattle.gno_table.specs.Reading.{IsRowAdded, ReadsTo}
-use Rattle.gno_table.proofs.RowsSoFar.{goes_on}
+use Rattle.gno_table.proofs.RowsSoFar.{begins, goes_on}
 use Rattle.gno_table.proofs.reading.read_rows.Goals as goal
 
 pub loop-turn-preserved : goal.loop-turn-preserved
@@ -25,4 +26,20 @@ loop-turn-preserved g c =
       name = c.in_ok-push_row-2.ensures.open.1 ∙ name_after ∙ c.loop-turn.invariant.name;
       tables = c.in_ok-push_row-2.ensures.tables ∙ tables_after ∙ c.loop-turn.invariant.tables;
       later = omega (arith, c.loop-turn.invariant.later, c.in_ok-next.ensures.later, c.in_ok-push_row-2.ensures.later);
+    }
+
+pub loop-turn-init : goal.loop-turn-init
+loop-turn-init g c =
+    let tables = g.K.Keeper.tables in
+    let name = g.K.Keeper.open_name in
+    let pushed = c.in_ok-push_row.ensures in
+    let told = tables c.args.keeper.now (name c.args.keeper.now) in
+    let told_new : tables c.push_row.new.keeper (name c.push_row.new.keeper) ≡ told = λ i. (pushed.tables i) (pushed.open.1 i) in
+    let add : IsRowAdded told [] [] c.push_row.new.rows = subst (λ (rows : List Change). IsRowAdded told rows [] c.push_row.new.rows) c.new-rows.ensures pushed.rows in
+    record {
+      so_far = subst (λ (t : Option Table). ReadsTo t c.new-key.result c.push_row.new.rows) (sym told_new) (subst (λ (k : List ℕ). ReadsTo told k c.push_row.new.rows) (sym c.new-key.ensures) (begins told c.push_row.new.rows add));
+      is_open = pushed.open.0;
+      name = pushed.open.1;
+      tables = pushed.tables;
+      later = pushed.later;
     }
