@@ -2,4 +2,5 @@ pub mod Fronts
 pub mod Memories
 pub mod Named
 pub mod Running
+pub mod Stopped
 pub mod ThreeWords

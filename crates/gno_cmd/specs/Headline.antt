@@ -1,5 +1,5 @@
 -- What a command is: a script, run over a table of a store.
-use Rattle.std.specs.Prelude.{ℕ, ◌≡◌, ◌≢◌, List, Option, Some, None, Bool, if◌then◌else◌, take}
+use Rattle.std.specs.Prelude.{ℕ, ◌≡◌, ◌≢◌, ◌<◌, ◌≤◌, ◌+◌, List, Option, Some, None, Bool, if◌then◌else◌, length, take}
 use Rattle.gno_port.specs.Streams.{Gained, Lost, IsAtEnd}
 use Rattle.gno_port.specs.Tables.{Table}
 use Rattle.gno_script.specs.declared.item.Item.{Item}
@@ -44,6 +44,37 @@ pub record Continues (table : Table) (items : List Item) (held held' : Option (L
   pub status_is : status ≡ end_status (session memory items).good
   pub becomes : HasMemory table' (session memory items).memory
 
+-- The session stopped before the commit of an item: those in front of it were performed whole.
+pub record StopsBefore (memory : List Package) (items : List Item) (held held' : Option (List ℕ)) (table' : Option Table) : Type 0 where
+  pub front : ℕ
+  pub within : front ≤ length items
+  pub prints : Gained held held' (session memory (take front items)).text
+  pub becomes : HasMemory table' (session memory (take front items)).memory
+
+-- The session stopped in the text of an item: that one and those in front of it were committed. All text in front of it
+-- was written, and a part of its own.
+pub record StopsWithin (memory : List Package) (items : List Item) (held held' : Option (List ℕ)) (table' : Option Table) : Type 0 where
+  pub front : ℕ
+  pub within : front < length items
+  pub written : ℕ
+  pub whole : length (session memory (take front items)).text ≤ written
+  pub cut : written < length (session memory (take (front + 1) items)).text
+  pub prints : Gained held held' (take written (session memory (take (front + 1) items)).text)
+  pub becomes : HasMemory table' (session memory (take (front + 1) items)).memory
+
+-- what a session leaves that stopped by a fault of the output or the store, at rows that are no table of the first format, or for want of memory
+abbrev pub Leaves : Status → List Package → List Item → Option (List ℕ) → Option (List ℕ) → Option Table → Type 0
+Leaves Done memory items held held' table' = Unit {0}
+Leaves SomeFailed memory items held held' table' = Unit {0}
+Leaves (Usage word) memory items held held' table' = Unit {0}
+Leaves ReadFault memory items held held' table' = Unit {0}
+Leaves WriteFault memory items held held' table' = StopsWithin memory items held held' table'
+Leaves StoreFault memory items held held' table' = StopsBefore memory items held held' table'
+Leaves (Damaged key) memory items held held' table' = StopsBefore memory items held held' table'
+Leaves NoMemory memory items held held' table' = StopsBefore memory items held held' table'
+Leaves (ScriptFault line) memory items held held' table' = Unit {0}
+Leaves (Limit which) memory items held held' table' = Unit {0}
+
 -- All of the input was read, and it is a script.
 pub record ReadsScript (left left' : Option (List ℕ)) (items : List Item) : Type 0 where
   pub text : List ℕ
@@ -65,11 +96,38 @@ pub record ReplaysAt (name : List ℕ) (left left' held held' : Option (List ℕ
   pub outcome : (table : Table) → tables name ≡ Some table → Continues table items held held' (tables' name) status
   pub others : (other : List ℕ) → other ≢ name → tables' other ≡ tables other
 
+-- All of the input is a script. Where the table of that name is told and of the first format, the session that begins with
+-- its memory stopped by the fault of the status; no other table changed.
+pub record StopsAt (name : List ℕ) (left left' held held' : Option (List ℕ)) (tables tables' : List ℕ → Option Table) (status : Status) : Type 0 where
+  pub items : List Item
+  pub reads : ReadsScript left left' items
+  pub outcome : (table : Table) (memory : List Package) → tables name ≡ Some table → IsFirst table memory → Leaves status memory items held held' (tables' name)
+  pub others : (other : List ℕ) → other ≢ name → tables' other ≡ tables other
+
 -- the words name the table
 pub record Replays (words : List (List ℕ)) (left left' held held' : Option (List ℕ)) (tables tables' : List ℕ → Option Table) (status : Status) : Type 0 where
   pub name : List ℕ
   pub right_words : AreReplayWords words name
   pub replays : ReplaysAt name left left' held held' tables tables' status
+
+-- the words name the table
+pub record Stops (words : List (List ℕ)) (left left' held held' : Option (List ℕ)) (tables tables' : List ℕ → Option Table) (status : Status) : Type 0 where
+  pub name : List ℕ
+  pub right_words : AreReplayWords words name
+  pub stops : StopsAt name left left' held held' tables tables' status
+
+-- the output or the store failed, or the rows are no table of the first format
+abbrev pub IsStopped : Status → Type 0
+IsStopped Done = ⊥
+IsStopped SomeFailed = ⊥
+IsStopped (Usage word) = ⊥
+IsStopped ReadFault = ⊥
+IsStopped WriteFault = Unit {0}
+IsStopped StoreFault = Unit {0}
+IsStopped (Damaged key) = Unit {0}
+IsStopped NoMemory = ⊥
+IsStopped (ScriptFault line) = ⊥
+IsStopped (Limit which) = ⊥
 
 -- the keeper was not called yet
 abbrev pub IsEarly : Status → Type 0

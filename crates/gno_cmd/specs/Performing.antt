@@ -1,10 +1,12 @@
 -- One item of a session, performed on a table.
-use Rattle.std.specs.Prelude.{ℕ, ◌≡◌, List, [], ◌∷◌, Option, true}
+use Rattle.std.specs.Prelude.{ℕ, ◌≡◌, ◌<◌, List, [], ◌∷◌, Option, true, length, take}
 use Rattle.gno_port.specs.Streams.{Gained}
+use Rattle.gno_port.specs.Tables.{Table}
 use Rattle.gno_script.specs.declared.item.Item.{Item}
 use Rattle.gno_script.specs.declared.item.Item.TheVariants.{Add, Call, Reload}
 use Rattle.gno_items.specs.Well.{has_no_zero}
 use Rattle.gno_items.specs.Session.{Replied}
+use Rattle.gno_table.specs.FirstFormat.{Stands}
 use Rattle.gno_cmd.specs.declared.performing.Ran.{Ran}
 use Rattle.gno_cmd.specs.declared.performing.ItemFault.{ItemFault}
 use Rattle.gno_cmd.specs.declared.performing.ItemFault.TheVariants.{Write, Store, Damaged, NoMemory}
@@ -14,6 +16,15 @@ pub record Shows (held held' : Option (List ℕ)) (ran : Ran) (want : Replied) :
   pub text : Gained held held' want.text
   pub good : ran.good ≡ want.good
   pub done : ran.done ≡ want.done
+
+-- some first bytes of a text were gained, maybe none, and not all of it
+abbrev pub GainedPart : Option (List ℕ) → Option (List ℕ) → List ℕ → Type 0
+GainedPart old new text = (n : ℕ) × (n < length text) × Gained old new (take n text)
+
+-- the item was committed, and only a part of its text was written
+pub record BreaksOff (held held' : Option (List ℕ)) (table' : Option Table) (want : Replied) : Type 0 where
+  pub text : GainedPart held held' want.text
+  pub stands : Stands table' want.memory
 
 -- a fault that comes before the item's commit
 abbrev pub IsBeforeCommit : ItemFault → Type 0

@@ -12,3 +12,6 @@ pub use gno_items::{End, ItemReply, item_text};
 pub use gno_script::{Item, ScriptError, read_script};
 pub use status::Status;
 pub use top::gno;
+
+#[cfg(test)]
+mod tests;

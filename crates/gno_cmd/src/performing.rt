@@ -6,7 +6,7 @@ ghost use Rattle.gno_items.specs.Memory.{package_of, with_new_values, with_packa
 ghost use Rattle.gno_items.specs.Session.{is_ok, replied, shown};
 ghost use Rattle.gno_items.specs.Well.{CanHave, CanKeep, CanStore, IsWellPackage};
 ghost use Rattle.gno_table.specs.FirstFormat.{Stands};
-ghost use Rattle.gno_cmd.specs.Performing.{IsBeforeCommit, IsNamed, Shows};
+ghost use Rattle.gno_cmd.specs.Performing.{BreaksOff, GainedPart, IsBeforeCommit, IsNamed, Shows};
 
 use gno_base::{List, Whole};
 use gno_items::{Added, Called, End, NoMemory, Package, Packages, add, call, item_text};
@@ -56,6 +56,7 @@ pub(crate) fn perform<K: Keeper, O: Sink>(
     ensures told { IsSome (K.tables keeper.old name.now) → IsSome (K.tables keeper.new name.now) }
     ensures others { (other : List ℕ) → other ≢ name.now → K.tables keeper.new other ≡ K.tables keeper.old other }
 
+    ensures broken { IsErrOf result ItemFault.Write → BreaksOff (O.holds out.old) (O.holds out.new) (K.tables keeper.new name.now) (replied packages.old done item.now) }
     ensures unwritten { IfErr result (λ fault. IsBeforeCommit fault → O.holds out.new ≡ O.holds out.old) }
     ensures unstored { IfErr result (λ fault. IsBeforeCommit fault → K.tables keeper.new ≡ K.tables keeper.old) }
     ensures store { IsErrOf result ItemFault.Store → Rose (K.faults keeper.old) (K.faults keeper.new) }
@@ -125,6 +126,7 @@ fn finish_add<K: Keeper, O: Sink>(
     ensures told { IsSome (K.tables keeper.old (K.open_name keeper.old)) → IsSome (K.tables keeper.new (K.open_name keeper.old)) }
     ensures others { (other : List ℕ) → other ≢ K.open_name keeper.old → K.tables keeper.new other ≡ K.tables keeper.old other }
 
+    ensures broken { IsErrOf result ItemFault.Write → BreaksOff (O.holds out.old) (O.holds out.new) (K.tables keeper.new (K.open_name keeper.old)) (shown done item.now added.reply (with_package packages.old added.held)) }
     ensures unwritten { IfErr result (λ fault. IsBeforeCommit fault → O.holds out.new ≡ O.holds out.old) }
     ensures unstored { IfErr result (λ fault. IsBeforeCommit fault → K.tables keeper.new ≡ K.tables keeper.old) }
     ensures store { IsErrOf result ItemFault.Store → Rose (K.faults keeper.old) (K.faults keeper.new) }
@@ -195,6 +197,7 @@ fn finish_call<K: Keeper, O: Sink>(
     ensures told { IsSome (K.tables keeper.old (K.open_name keeper.old)) → IsSome (K.tables keeper.new (K.open_name keeper.old)) }
     ensures others { (other : List ℕ) → other ≢ K.open_name keeper.old → K.tables keeper.new other ≡ K.tables keeper.old other }
 
+    ensures broken { IsErrOf result ItemFault.Write → BreaksOff (O.holds out.old) (O.holds out.new) (K.tables keeper.new (K.open_name keeper.old)) (shown done item.now called.reply (with_new_values packages.old path.now called.values)) }
     ensures unwritten { IfErr result (λ fault. IsBeforeCommit fault → O.holds out.new ≡ O.holds out.old) }
     ensures unstored { IfErr result (λ fault. IsBeforeCommit fault → K.tables keeper.new ≡ K.tables keeper.old) }
     ensures store { IsErrOf result ItemFault.Store → Rose (K.faults keeper.old) (K.faults keeper.new) }
@@ -260,6 +263,7 @@ fn is_ok(end: &End) -> bool
 
 fn write_text<O: Sink>(out: &mut O, text: &[u8]) -> Result<(), ItemFault>
     ensures written { OnOk result (Gained (O.holds out.old) (O.holds out.new) text.now) }
+    ensures part { OnErr result (GainedPart (O.holds out.old) (O.holds out.new) text.now) }
     ensures fault { IfErr result (λ fault. fault ≡ ItemFault.Write) }
 {
     match write_all(out, text) {

@@ -1,10 +1,11 @@
 // Running the items of a script, one after another.
-ghost use Rattle.std.specs.Prelude.{◌≡◌, ◌≢◌, ◌<◌, ◌≤◌, ◌^◌, ◌&&◌, true, ℕ, List, IfOk, IsSome, OnOk, IsErrOf, length};
+ghost use Rattle.std.specs.Prelude.{◌≡◌, ◌≢◌, ◌<◌, ◌≤◌, ◌^◌, ◌&&◌, true, ℕ, List, IfOk, IfErr, IsSome, OnOk, IsErrOf, length};
 ghost use Rattle.gno_port.specs.Causes.{Rose};
 ghost use Rattle.gno_port.specs.Streams.{Gained};
 ghost use Rattle.gno_items.specs.Session.{session};
 ghost use Rattle.gno_table.specs.FirstFormat.{Stands};
-ghost use Rattle.gno_cmd.specs.Performing.{AreNamed};
+ghost use Rattle.gno_cmd.specs.Headline.{StopsBefore, StopsWithin};
+ghost use Rattle.gno_cmd.specs.Performing.{AreNamed, IsBeforeCommit};
 
 use crate::performing::{ItemFault, perform};
 use gno_items::Packages;
@@ -30,6 +31,8 @@ pub(crate) fn run_items<K: Keeper, O: Sink>(
     ensures text { OnOk result (IsSome (K.tables keeper.old name.now) → Gained (O.holds out.old) (O.holds out.new) (session packages.old items.now).text) }
     ensures good { IfOk result (λ good. IsSome (K.tables keeper.old name.now) → good ≡ (session packages.old items.now).good) }
     ensures stands { OnOk result (IsSome (K.tables keeper.old name.now) → Stands (K.tables keeper.new name.now) (session packages.old items.now).memory) }
+    ensures before { IfErr result (λ fault. IsBeforeCommit fault → IsSome (K.tables keeper.old name.now) → StopsBefore packages.old items.now (O.holds out.old) (O.holds out.new) (K.tables keeper.new name.now)) }
+    ensures within { IsErrOf result ItemFault.Write → IsSome (K.tables keeper.old name.now) → StopsWithin packages.old items.now (O.holds out.old) (O.holds out.new) (K.tables keeper.new name.now) }
     ensures told { IsSome (K.tables keeper.old name.now) → IsSome (K.tables keeper.new name.now) }
     ensures others { (other : List ℕ) → other ≢ name.now → K.tables keeper.new other ≡ K.tables keeper.old other }
     ensures store { IsErrOf result ItemFault.Store → Rose (K.faults keeper.old) (K.faults keeper.new) }

@@ -1,13 +1,16 @@
 // The top call.
-ghost use Rattle.std.specs.Prelude.{◌≡◌, ◌≢◌, ◌<◌, ◌≤◌, ◌^◌, ◌↔◌, ℕ, List, Some, IfSome, map, length};
+ghost use Rattle.std.specs.Prelude.{◌≡◌, ◌≢◌, ◌<◌, ◌≤◌, ◌^◌, ◌↔◌, ◌⊎◌, ℕ, List, Option, Some, IfSome, map, length};
 ghost use Rattle.std.specs.String.{string_bytes};
 ghost use Rattle.gno_base.specs.declared.names.LimitOf.TheVariants.{Script};
 ghost use Rattle.gno_port.specs.Causes.{Rose};
 ghost use Rattle.gno_port.specs.Tables.{Table};
-ghost use Rattle.gno_cmd.specs.Headline.{Continues, GainedFront, IsEarly, IsLate, IsOver, ReadsFault, Replays, ReplaysAt, end_status};
+ghost use Rattle.gno_script.specs.declared.item.Item.{Item as ScriptItem};
+ghost use Rattle.gno_items.specs.declared.memory.Package.{Package};
+ghost use Rattle.gno_table.specs.FirstFormat.{IsFirst};
+ghost use Rattle.gno_cmd.specs.Headline.{Continues, GainedFront, IsEarly, IsLate, IsOver, IsStopped, Leaves, ReadsFault, Replays, ReplaysAt, Stops, StopsAt, StopsBefore, end_status};
 ghost use Rattle.gno_cmd.specs.Performing.{AreNamed};
 ghost use Rattle.gno_cmd.specs.Statuses.{status_line};
-ghost use Rattle.gno_cmd.specs.Usage.{usage_fault};
+ghost use Rattle.gno_cmd.specs.Usage.{AreReplayWords, usage_fault};
 
 use crate::Status;
 use crate::line::write_line;
@@ -37,6 +40,9 @@ pub fn gno<I: Source, O: Sink, E: Sink, K: Keeper>(
     keeper: K,
 ) -> (Status, K)
     ensures over { IsOver result.0 → Replays (map string_bytes words.now) (I.left input.old) (I.left input.new) (O.holds out.old) (O.holds out.new) (K.tables keeper) (K.tables result.1) result.0 }
+    ensures stopped { IsStopped result.0 → Stops (map string_bytes words.now) (I.left input.old) (I.left input.new) (O.holds out.old) (O.holds out.new) (K.tables keeper) (K.tables result.1) result.0 }
+    ensures memory { result.0 ≡ Status.NoMemory → ((result.1 ≡ keeper) × (O.holds out.new ≡ O.holds out.old)) ⊎ Stops (map string_bytes words.now) (I.left input.old) (I.left input.new) (O.holds out.old) (O.holds out.new) (K.tables keeper) (K.tables result.1) result.0 }
+    ensures others { (name : List ℕ) (other : List ℕ) → AreReplayWords (map string_bytes words.now) name → other ≢ name → K.tables result.1 other ≡ K.tables keeper other }
     ensures usage { (word : ℕ) → (result.0 ≡ Status.Usage word) ↔ (usage_fault (map string_bytes words.now) ≡ Some word) }
     ensures read { result.0 ≡ Status.ReadFault → Rose (I.faults input.old) (I.faults input.new) }
     ensures store { result.0 ≡ Status.StoreFault → Rose (K.faults keeper) (K.faults result.1) }
@@ -64,6 +70,9 @@ fn replay<I: Source, O: Sink, K: Keeper>(
     keeper: &mut K,
 ) -> Status
     ensures over { IsOver result → ReplaysAt name.now (I.left input.old) (I.left input.new) (O.holds out.old) (O.holds out.new) (K.tables keeper.old) (K.tables keeper.new) result }
+    ensures stopped { IsStopped result → StopsAt name.now (I.left input.old) (I.left input.new) (O.holds out.old) (O.holds out.new) (K.tables keeper.old) (K.tables keeper.new) result }
+    ensures memory { result ≡ Status.NoMemory → ((keeper.new ≡ keeper.old) × (O.holds out.new ≡ O.holds out.old)) ⊎ StopsAt name.now (I.left input.old) (I.left input.new) (O.holds out.old) (O.holds out.new) (K.tables keeper.old) (K.tables keeper.new) result }
+    ensures others { (other : List ℕ) → other ≢ name.now → K.tables keeper.new other ≡ K.tables keeper.old other }
     ensures usage { (word : ℕ) → result ≢ Status.Usage word }
     ensures read { result ≡ Status.ReadFault → Rose (I.faults input.old) (I.faults input.new) }
     ensures store { result ≡ Status.StoreFault → Rose (K.faults keeper.old) (K.faults keeper.new) }
@@ -95,6 +104,7 @@ fn run_script<O: Sink, K: Keeper>(
 ) -> Status
     requires { AreNamed items.now }
     ensures over { IsOver result → (table : Table) → K.tables keeper.old name.now ≡ Some table → Continues table items.now (O.holds out.old) (O.holds out.new) (K.tables keeper.new name.now) result }
+    ensures stopped { (table : Table) (memory : List Package) → K.tables keeper.old name.now ≡ Some table → IsFirst table memory → Leaves result memory items.now (O.holds out.old) (O.holds out.new) (K.tables keeper.new name.now) }
     ensures others { (other : List ℕ) → other ≢ name.now → K.tables keeper.new other ≡ K.tables keeper.old other }
     ensures late { IsLate result }
     ensures store { result ≡ Status.StoreFault → Rose (K.faults keeper.old) (K.faults keeper.new) }
@@ -136,6 +146,7 @@ fn status_at_end(good: bool) -> Status
 fn damaged(alloc: Global) -> Status
     ensures late { IsLate result }
     ensures over { IsOver result → ⊥ }
+    ensures stopped { (memory : List Package) (items : List ScriptItem) (held : Option (List ℕ)) (held' : Option (List ℕ)) (table : Option Table) → StopsBefore memory items held held' table → Leaves result memory items held held' table }
     ensures store { result ≢ Status.StoreFault }
 {
     match Bytes::from_slice(alloc, b"F") {
