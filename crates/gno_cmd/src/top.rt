@@ -31,6 +31,9 @@ const MOST_ITEMS: usize = 1 << 62;
 /// Runs the command that the words name, and hands the keeper back. `replay -store NAME` reads a script from `input`,
 /// runs it on the table of that name and writes the text of its items to `out`. A status from 2 on writes its one line
 /// to `err`, as far as that takes it.
+///
+/// Where the session stops at a fault, the items in front of it stand, performed whole. A write fault comes after the
+/// commit: the item whose text is cut short stands too. Want of memory may come before the table is opened.
 pub fn gno<I: Source, O: Sink, E: Sink, K: Keeper>(
     alloc: Global,
     words: &[String],
