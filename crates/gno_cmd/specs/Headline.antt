@@ -1,5 +1,5 @@
 -- What a command is: a script, run over a table of a store.
-use Rattle.std.specs.Prelude.{ℕ, ◌≡◌, ◌≢◌, ◌<◌, ◌≤◌, ◌+◌, List, Option, Some, None, Bool, if◌then◌else◌, length, take}
+use Rattle.std.specs.Prelude.{ℕ, ◌≡◌, ◌≢◌, ◌<◌, ◌≤◌, ◌+◌, List, Option, Some, None, Bool, if◌then◌else◌, IsSome, codes, length, take}
 use Rattle.gno_port.specs.Streams.{Gained, Lost, IsAtEnd}
 use Rattle.gno_port.specs.Tables.{Table}
 use Rattle.gno_script.specs.declared.item.Item.{Item}
@@ -8,7 +8,7 @@ use Rattle.gno_script.specs.Script.{IsScript}
 use Rattle.gno_script.specs.Faults.{IsFirstFault}
 use Rattle.gno_items.specs.declared.memory.Package.{Package}
 use Rattle.gno_items.specs.Session.{session}
-use Rattle.gno_table.specs.FirstFormat.{IsFirst}
+use Rattle.gno_table.specs.FirstFormat.{IsFirst, IsNotFirst}
 use Rattle.gno_cmd.specs.declared.status.Status.{Status}
 use Rattle.gno_cmd.specs.declared.status.Status.TheVariants.{Done, SomeFailed, Usage, ReadFault, WriteFault, StoreFault, Damaged, NoMemory, ScriptFault, Limit}
 use Rattle.gno_cmd.specs.Usage.{AreReplayWords}
@@ -44,10 +44,12 @@ pub record Continues (table : Table) (items : List Item) (held held' : Option (L
   pub status_is : status ≡ end_status (session memory items).good
   pub becomes : HasMemory table' (session memory items).memory
 
--- The session stopped before the commit of an item: those in front of it were performed whole.
-pub record StopsBefore (memory : List Package) (items : List Item) (held held' : Option (List ℕ)) (table' : Option Table) : Type 0 where
+-- The session stopped before the commit of an item: those in front of it were performed whole. In front of all items the
+-- table is the one that it was.
+pub record StopsBefore (memory : List Package) (items : List Item) (held held' : Option (List ℕ)) (table table' : Option Table) : Type 0 where
   pub front : ℕ
   pub within : front ≤ length items
+  pub unchanged : front ≡ 0 → table' ≡ table
   pub prints : Gained held held' (session memory (take front items)).text
   pub becomes : HasMemory table' (session memory (take front items)).memory
 
@@ -62,24 +64,31 @@ pub record StopsWithin (memory : List Package) (items : List Item) (held held' :
   pub prints : Gained held held' (take written (session memory (take (front + 1) items)).text)
   pub becomes : HasMemory table' (session memory (take (front + 1) items)).memory
 
--- what a session leaves that stopped by a fault of the output or the store, at rows that are no table of the first format, or for want of memory
-abbrev pub Leaves : Status → List Package → List Item → Option (List ℕ) → Option (List ℕ) → Option Table → Type 0
-Leaves Done memory items held held' table' = Unit {0}
-Leaves SomeFailed memory items held held' table' = Unit {0}
-Leaves (Usage word) memory items held held' table' = Unit {0}
-Leaves ReadFault memory items held held' table' = Unit {0}
-Leaves WriteFault memory items held held' table' = StopsWithin memory items held held' table'
-Leaves StoreFault memory items held held' table' = StopsBefore memory items held held' table'
-Leaves (Damaged key) memory items held held' table' = StopsBefore memory items held held' table'
-Leaves NoMemory memory items held held' table' = StopsBefore memory items held held' table'
-Leaves (ScriptFault line) memory items held held' table' = Unit {0}
-Leaves (Limit which) memory items held held' table' = Unit {0}
+-- what a session on a table of the first format leaves that stopped by a fault of the output or the store, or for want of memory
+abbrev pub Leaves : Status → List Package → List Item → Option (List ℕ) → Option (List ℕ) → Option Table → Option Table → Type 0
+Leaves Done memory items held held' table table' = Unit {0}
+Leaves SomeFailed memory items held held' table table' = Unit {0}
+Leaves (Usage word) memory items held held' table table' = Unit {0}
+Leaves ReadFault memory items held held' table table' = Unit {0}
+Leaves WriteFault memory items held held' table table' = StopsWithin memory items held held' table'
+Leaves StoreFault memory items held held' table table' = StopsBefore memory items held held' table table'
+Leaves (Damaged key) memory items held held' table table' = ⊥
+Leaves NoMemory memory items held held' table table' = StopsBefore memory items held held' table table'
+Leaves (ScriptFault line) memory items held held' table table' = Unit {0}
+Leaves (Limit which) memory items held held' table table' = Unit {0}
+
+-- The table is not of the first format: nothing was written, and its rows stay.
+pub record Refuses (held held' : Option (List ℕ)) (table table' : Option Table) (status : Status) : Type 0 where
+  pub unwritten : held' ≡ held
+  pub unchanged : table' ≡ table
+  pub no_write_fault : status ≢ WriteFault
 
 -- All of the input was read, and it is a script.
 pub record ReadsScript (left left' : Option (List ℕ)) (items : List Item) : Type 0 where
   pub text : List ℕ
   pub reads : Lost left left' text
   pub at_end : IsAtEnd left'
+  pub within : length text ≤ 67108864
   pub script : IsScript (lines_of text) items
 
 -- All of the input was read, and this is its first faulty line.
@@ -87,6 +96,7 @@ pub record ReadsFault (left left' : Option (List ℕ)) (line : ℕ) : Type 0 whe
   pub text : List ℕ
   pub reads : Lost left left' text
   pub at_end : IsAtEnd left'
+  pub within : length text ≤ 67108864
   pub fault : IsFirstFault (lines_of text) line
 
 -- All of the input is a script. Where the table of that name is told, the script went on with it; no other table changed.
@@ -97,11 +107,13 @@ pub record ReplaysAt (name : List ℕ) (left left' held held' : Option (List ℕ
   pub others : (other : List ℕ) → other ≢ name → tables' other ≡ tables other
 
 -- All of the input is a script. Where the table of that name is told and of the first format, the session that begins with
--- its memory stopped by the fault of the status; no other table changed.
+-- its memory stopped by the fault of the status; where it is told and of no first format, nothing was done. No other table
+-- changed.
 pub record StopsAt (name : List ℕ) (left left' held held' : Option (List ℕ)) (tables tables' : List ℕ → Option Table) (status : Status) : Type 0 where
   pub items : List Item
   pub reads : ReadsScript left left' items
-  pub outcome : (table : Table) (memory : List Package) → tables name ≡ Some table → IsFirst table memory → Leaves status memory items held held' (tables' name)
+  pub outcome : (memory : List Package) → HasMemory (tables name) memory → Leaves status memory items held held' (tables name) (tables' name)
+  pub refused : IsSome (tables name) → IsNotFirst (tables name) → Refuses held held' (tables name) (tables' name) status
   pub others : (other : List ℕ) → other ≢ name → tables' other ≡ tables other
 
 -- the words name the table
@@ -115,6 +127,13 @@ pub record Stops (words : List (List ℕ)) (left left' held held' : Option (List
   pub name : List ℕ
   pub right_words : AreReplayWords words name
   pub stops : StopsAt name left left' held held' tables tables' status
+
+-- the words name a table that is not of the first format, and the key is that of the format's row
+pub record FindsDamage (words : List (List ℕ)) (tables : List ℕ → Option Table) (key : List ℕ) : Type 0 where
+  pub name : List ℕ
+  pub right_words : AreReplayWords words name
+  pub format_key : key ≡ codes "F"
+  pub not_first : IsNotFirst (tables name)
 
 -- the output or the store failed, or the rows are no table of the first format
 abbrev pub IsStopped : Status → Type 0

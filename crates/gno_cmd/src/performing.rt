@@ -57,6 +57,7 @@ pub(crate) fn perform<K: Keeper, O: Sink>(
     ensures others { (other : List ℕ) → other ≢ name.now → K.tables keeper.new other ≡ K.tables keeper.old other }
 
     ensures broken { IsErrOf result ItemFault.Write → BreaksOff (O.holds out.old) (O.holds out.new) (K.tables keeper.new name.now) (replied packages.old done item.now) }
+    ensures undamaged { IsErrOf result ItemFault.Damaged → IsSome (K.tables keeper.old name.now) → ⊥ }
     ensures unwritten { IfErr result (λ fault. IsBeforeCommit fault → O.holds out.new ≡ O.holds out.old) }
     ensures unstored { IfErr result (λ fault. IsBeforeCommit fault → K.tables keeper.new ≡ K.tables keeper.old) }
     ensures store { IsErrOf result ItemFault.Store → Rose (K.faults keeper.old) (K.faults keeper.new) }
@@ -127,6 +128,7 @@ fn finish_add<K: Keeper, O: Sink>(
     ensures others { (other : List ℕ) → other ≢ K.open_name keeper.old → K.tables keeper.new other ≡ K.tables keeper.old other }
 
     ensures broken { IsErrOf result ItemFault.Write → BreaksOff (O.holds out.old) (O.holds out.new) (K.tables keeper.new (K.open_name keeper.old)) (shown done item.now added.reply (with_package packages.old added.held)) }
+    ensures undamaged { IfErr result (λ fault. fault ≢ ItemFault.Damaged) }
     ensures unwritten { IfErr result (λ fault. IsBeforeCommit fault → O.holds out.new ≡ O.holds out.old) }
     ensures unstored { IfErr result (λ fault. IsBeforeCommit fault → K.tables keeper.new ≡ K.tables keeper.old) }
     ensures store { IsErrOf result ItemFault.Store → Rose (K.faults keeper.old) (K.faults keeper.new) }
@@ -161,6 +163,7 @@ fn commit_added<K: Keeper>(
     ensures others { (other : List ℕ) → other ≢ K.open_name keeper.old → K.tables keeper.new other ≡ K.tables keeper.old other }
     ensures unstored { OnErr result (K.tables keeper.new ≡ K.tables keeper.old) }
     ensures before { IfErr result (λ fault. IsBeforeCommit fault) }
+    ensures undamaged { IfErr result (λ fault. fault ≢ ItemFault.Damaged) }
     ensures store { IsErrOf result ItemFault.Store → Rose (K.faults keeper.old) (K.faults keeper.new) }
     ensures later { K.faults keeper.old ≤ K.faults keeper.new }
 {
@@ -198,6 +201,7 @@ fn finish_call<K: Keeper, O: Sink>(
     ensures others { (other : List ℕ) → other ≢ K.open_name keeper.old → K.tables keeper.new other ≡ K.tables keeper.old other }
 
     ensures broken { IsErrOf result ItemFault.Write → BreaksOff (O.holds out.old) (O.holds out.new) (K.tables keeper.new (K.open_name keeper.old)) (shown done item.now called.reply (with_new_values packages.old path.now called.values)) }
+    ensures undamaged { IfErr result (λ fault. fault ≢ ItemFault.Damaged) }
     ensures unwritten { IfErr result (λ fault. IsBeforeCommit fault → O.holds out.new ≡ O.holds out.old) }
     ensures unstored { IfErr result (λ fault. IsBeforeCommit fault → K.tables keeper.new ≡ K.tables keeper.old) }
     ensures store { IsErrOf result ItemFault.Store → Rose (K.faults keeper.old) (K.faults keeper.new) }
@@ -233,6 +237,7 @@ fn commit_called<K: Keeper>(
     ensures others { (other : List ℕ) → other ≢ K.open_name keeper.old → K.tables keeper.new other ≡ K.tables keeper.old other }
     ensures unstored { OnErr result (K.tables keeper.new ≡ K.tables keeper.old) }
     ensures before { IfErr result (λ fault. IsBeforeCommit fault) }
+    ensures undamaged { IfErr result (λ fault. fault ≢ ItemFault.Damaged) }
     ensures store { IsErrOf result ItemFault.Store → Rose (K.faults keeper.old) (K.faults keeper.new) }
     ensures later { K.faults keeper.old ≤ K.faults keeper.new }
 {
@@ -247,6 +252,8 @@ fn commit_called<K: Keeper>(
 
 fn fault_of(fault: KeepFault) -> ItemFault
     ensures before { IsBeforeCommit result }
+    ensures undamaged { result ≢ ItemFault.Damaged }
+    ensures failed { fault ≡ KeepFault.Failed → result ≡ ItemFault.Store }
     ensures store { result ≡ ItemFault.Store → fault ≡ KeepFault.Failed }
 {
     match fault {
@@ -285,6 +292,7 @@ fn reload<K: Keeper>(
     ensures open { OnOk result ((K.is_open keeper.new ≡ true) × (K.open_name keeper.new ≡ name.now)) }
     ensures tables { K.tables keeper.new ≡ K.tables keeper.old }
     ensures before { IfErr result (λ fault. IsBeforeCommit fault) }
+    ensures undamaged { IsErrOf result ItemFault.Damaged → IsSome (K.tables keeper.old name.now) → ⊥ }
     ensures store { IsErrOf result ItemFault.Store → Rose (K.faults keeper.old) (K.faults keeper.new) }
     ensures later { K.faults keeper.old ≤ K.faults keeper.new }
 {

@@ -31,8 +31,9 @@ pub(crate) fn run_items<K: Keeper, O: Sink>(
     ensures text { OnOk result (IsSome (K.tables keeper.old name.now) → Gained (O.holds out.old) (O.holds out.new) (session packages.old items.now).text) }
     ensures good { IfOk result (λ good. IsSome (K.tables keeper.old name.now) → good ≡ (session packages.old items.now).good) }
     ensures stands { OnOk result (IsSome (K.tables keeper.old name.now) → Stands (K.tables keeper.new name.now) (session packages.old items.now).memory) }
-    ensures before { IfErr result (λ fault. IsBeforeCommit fault → IsSome (K.tables keeper.old name.now) → StopsBefore packages.old items.now (O.holds out.old) (O.holds out.new) (K.tables keeper.new name.now)) }
+    ensures before { IfErr result (λ fault. IsBeforeCommit fault → IsSome (K.tables keeper.old name.now) → StopsBefore packages.old items.now (O.holds out.old) (O.holds out.new) (K.tables keeper.old name.now) (K.tables keeper.new name.now)) }
     ensures within { IsErrOf result ItemFault.Write → IsSome (K.tables keeper.old name.now) → StopsWithin packages.old items.now (O.holds out.old) (O.holds out.new) (K.tables keeper.new name.now) }
+    ensures undamaged { IsErrOf result ItemFault.Damaged → IsSome (K.tables keeper.old name.now) → ⊥ }
     ensures told { IsSome (K.tables keeper.old name.now) → IsSome (K.tables keeper.new name.now) }
     ensures others { (other : List ℕ) → other ≢ name.now → K.tables keeper.new other ≡ K.tables keeper.old other }
     ensures store { IsErrOf result ItemFault.Store → Rose (K.faults keeper.old) (K.faults keeper.new) }

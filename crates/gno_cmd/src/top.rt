@@ -1,13 +1,13 @@
 // The top call.
-ghost use Rattle.std.specs.Prelude.{◌≡◌, ◌≢◌, ◌<◌, ◌≤◌, ◌^◌, ◌↔◌, ◌⊎◌, ℕ, List, Option, Some, IfSome, map, length};
+ghost use Rattle.std.specs.Prelude.{◌≡◌, ◌≢◌, ◌<◌, ◌≤◌, ◌^◌, ◌↔◌, ◌⊎◌, ℕ, List, Option, Some, IfSome, IsSome, codes, map, length};
 ghost use Rattle.std.specs.String.{string_bytes};
 ghost use Rattle.gno_base.specs.declared.names.LimitOf.TheVariants.{Script};
 ghost use Rattle.gno_port.specs.Causes.{Rose};
+ghost use Rattle.gno_port.specs.Streams.{LostSome};
 ghost use Rattle.gno_port.specs.Tables.{Table};
-ghost use Rattle.gno_script.specs.declared.item.Item.{Item as ScriptItem};
 ghost use Rattle.gno_items.specs.declared.memory.Package.{Package};
-ghost use Rattle.gno_table.specs.FirstFormat.{IsFirst};
-ghost use Rattle.gno_cmd.specs.Headline.{Continues, GainedFront, IsEarly, IsLate, IsOver, IsStopped, Leaves, ReadsFault, Replays, ReplaysAt, Stops, StopsAt, StopsBefore, end_status};
+ghost use Rattle.gno_table.specs.FirstFormat.{IsNotFirst};
+ghost use Rattle.gno_cmd.specs.Headline.{Continues, FindsDamage, GainedFront, HasMemory, IsEarly, IsLate, IsOver, IsStopped, Leaves, ReadsFault, Refuses, Replays, ReplaysAt, Stops, StopsAt, end_status};
 ghost use Rattle.gno_cmd.specs.Performing.{AreNamed};
 ghost use Rattle.gno_cmd.specs.Statuses.{status_line};
 ghost use Rattle.gno_cmd.specs.Usage.{AreReplayWords, usage_fault};
@@ -49,8 +49,10 @@ pub fn gno<I: Source, O: Sink, E: Sink, K: Keeper>(
     ensures usage { (word : ℕ) → (result.0 ≡ Status.Usage word) ↔ (usage_fault (map string_bytes words.now) ≡ Some word) }
     ensures read { result.0 ≡ Status.ReadFault → Rose (I.faults input.old) (I.faults input.new) }
     ensures store { result.0 ≡ Status.StoreFault → Rose (K.faults keeper) (K.faults result.1) }
+    ensures damaged { (key : List ℕ) → result.0 ≡ Status.Damaged key → FindsDamage (map string_bytes words.now) (K.tables keeper) key }
     ensures script { (line : ℕ) → result.0 ≡ Status.ScriptFault line → ReadsFault (I.left input.old) (I.left input.new) line }
-    ensures limit { result.0 ≡ Status.Limit Script → IfSome (I.left input.old) (λ text. 67108864 < length text) }
+    ensures limit { (which : LimitOf) → result.0 ≡ Status.Limit which → (which ≡ Script) × IfSome (I.left input.old) (λ text. 67108864 < length text) }
+    ensures front { LostSome (I.left input.old) (I.left input.new) }
     ensures untouched { IsEarly result.0 → result.1 ≡ keeper }
     ensures unwritten { IsEarly result.0 → O.holds out.new ≡ O.holds out.old }
     ensures line { GainedFront (E.holds err.old) (E.holds err.new) (status_line result.0) }
@@ -79,8 +81,10 @@ fn replay<I: Source, O: Sink, K: Keeper>(
     ensures usage { (word : ℕ) → result ≢ Status.Usage word }
     ensures read { result ≡ Status.ReadFault → Rose (I.faults input.old) (I.faults input.new) }
     ensures store { result ≡ Status.StoreFault → Rose (K.faults keeper.old) (K.faults keeper.new) }
+    ensures damaged { (key : List ℕ) → result ≡ Status.Damaged key → (key ≡ codes "F") × IsNotFirst (K.tables keeper.old name.now) }
     ensures script { (line : ℕ) → result ≡ Status.ScriptFault line → ReadsFault (I.left input.old) (I.left input.new) line }
-    ensures limit { result ≡ Status.Limit Script → IfSome (I.left input.old) (λ text. 67108864 < length text) }
+    ensures limit { (which : LimitOf) → result ≡ Status.Limit which → (which ≡ Script) × IfSome (I.left input.old) (λ text. 67108864 < length text) }
+    ensures front { LostSome (I.left input.old) (I.left input.new) }
     ensures untouched { IsEarly result → keeper.new ≡ keeper.old }
     ensures unwritten { IsEarly result → O.holds out.new ≡ O.holds out.old }
 {
@@ -107,7 +111,9 @@ fn run_script<O: Sink, K: Keeper>(
 ) -> Status
     requires { AreNamed items.now }
     ensures over { IsOver result → (table : Table) → K.tables keeper.old name.now ≡ Some table → Continues table items.now (O.holds out.old) (O.holds out.new) (K.tables keeper.new name.now) result }
-    ensures stopped { (table : Table) (memory : List Package) → K.tables keeper.old name.now ≡ Some table → IsFirst table memory → Leaves result memory items.now (O.holds out.old) (O.holds out.new) (K.tables keeper.new name.now) }
+    ensures stopped { (memory : List Package) → HasMemory (K.tables keeper.old name.now) memory → Leaves result memory items.now (O.holds out.old) (O.holds out.new) (K.tables keeper.old name.now) (K.tables keeper.new name.now) }
+    ensures refused { IsSome (K.tables keeper.old name.now) → IsNotFirst (K.tables keeper.old name.now) → Refuses (O.holds out.old) (O.holds out.new) (K.tables keeper.old name.now) (K.tables keeper.new name.now) result }
+    ensures damaged { (key : List ℕ) → result ≡ Status.Damaged key → (key ≡ codes "F") × IsNotFirst (K.tables keeper.old name.now) }
     ensures others { (other : List ℕ) → other ≢ name.now → K.tables keeper.new other ≡ K.tables keeper.old other }
     ensures late { IsLate result }
     ensures store { result ≡ Status.StoreFault → Rose (K.faults keeper.old) (K.faults keeper.new) }
@@ -147,10 +153,7 @@ fn status_at_end(good: bool) -> Status
 
 // The table is not of the first format: the key of the format's row shows it.
 fn damaged(alloc: Global) -> Status
-    ensures late { IsLate result }
-    ensures over { IsOver result → ⊥ }
-    ensures stopped { (memory : List Package) (items : List ScriptItem) (held : Option (List ℕ)) (held' : Option (List ℕ)) (table : Option Table) → StopsBefore memory items held held' table → Leaves result memory items held held' table }
-    ensures store { result ≢ Status.StoreFault }
+    ensures key { (result ≡ Status.Damaged (codes "F")) ⊎ (result ≡ Status.NoMemory) }
 {
     match Bytes::from_slice(alloc, b"F") {
         Ok(key) => Status::Damaged(key),

@@ -34,6 +34,7 @@ loop-item-preserved g c =
       is_open = c.in_ok-ran.ensures.open.0;
       name = c.in_ok-ran.ensures.open.1;
       stands = c.in_ok-ran.ensures.stands;
+      start = λ first. absurd {A = g.K.Keeper.tables c.perform.new.keeper c.args.name.now ≡ g.K.Keeper.tables c.args.keeper.now c.args.name.now} (omega (arith, first));
       told = λ told. c.in_ok-ran.ensures.told (inv.told told);
       others = λ other ne. c.in_ok-ran.ensures.others other ne ∙ inv.others other ne;
       named = (subst (λ (rest : List Item). AreNamed rest) items inv.named).1;

@@ -16,6 +16,7 @@ invariant-loop-item g l = record {
   is_open : g.K.Keeper.is_open l.keeper ≡ true;
   name : g.K.Keeper.open_name l.keeper ≡ l.name;
   stands : Stands (g.K.Keeper.tables l.keeper l.name) l.packages;
+  start : l.item-index ≡ 0 → g.K.Keeper.tables l.keeper l.name ≡ g.K.Keeper.tables l.fn.keeper l.name;
   told : IsSome (g.K.Keeper.tables l.fn.keeper l.name) → IsSome (g.K.Keeper.tables l.keeper l.name);
   others : (other : List ℕ) → other ≢ l.name → g.K.Keeper.tables l.keeper other ≡ g.K.Keeper.tables l.fn.keeper other;
   named : AreNamed (drop l.item-index l.items);
