@@ -43,11 +43,17 @@ impl<R: Read> Source for StdSource<R> {
 pub struct StdSink<W> {
     to: W,
     faults: u64,
+    // How often it took none of a piece that had some.
+    zero_writes: u64,
 }
 
 impl<W> StdSink<W> {
     pub fn new(to: W) -> StdSink<W> {
-        StdSink { to, faults: 0 }
+        StdSink {
+            to,
+            faults: 0,
+            zero_writes: 0,
+        }
     }
 }
 
@@ -58,9 +64,15 @@ impl<W: Write> Sink for StdSink<W> {
 
     ghost faults = { λ s. s.faults };
 
+    ghost zero_writes = { λ s. s.zero_writes };
+
     fn write(&mut self, piece: &[u8]) -> Result<usize, Failed> {
         for _turn in 0..MOST_TURNS {
             match self.to.write(piece) {
+                Ok(0) if !piece.is_empty() => {
+                    self.zero_writes = self.zero_writes.saturating_add(1);
+                    return Ok(0);
+                }
                 Ok(count) => return Ok(count),
                 Err(error) if error.kind() == ErrorKind::Interrupted => {}
                 Err(_) => break,

@@ -1,6 +1,14 @@
 -- When a device may answer a fault.
-use Rattle.std.specs.Prelude.{ℕ, ◌+◌, ◌-◌, ◌^◌, ◌≤◌, min}
+use Rattle.std.specs.Prelude.{ℕ, ◌≡◌, ◌+◌, ◌-◌, ◌^◌, ◌<◌, ◌≤◌, ◌⊎◌, min, List, length, Result, IsOkAnd}
 
 -- a count of faults that is kept in 64 bits rose, or stands at its end
 abbrev pub Rose : ℕ → ℕ → Type 0
 Rose before now = min (before + 1) (2 ^ 64 - 1) ≤ now
+
+-- a write took none of a piece that had some
+abbrev pub TookNone : {E : Type 0} → Result ℕ E → List ℕ → Type 0
+TookNone result piece = IsOkAnd result (λ count. (count ≡ 0) × (0 < length piece))
+
+-- what cuts a text short: its sink failed, or took none of a piece that had some
+abbrev pub CutsShort : (faults faults' zero_writes zero_writes' : ℕ) → Type 0
+CutsShort faults faults' zero_writes zero_writes' = Rose faults faults' ⊎ Rose zero_writes zero_writes'

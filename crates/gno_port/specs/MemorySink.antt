@@ -14,6 +14,10 @@ bytes_held sink = sink.holds
 abbrev pub sink_faults : MemorySink → ℕ
 sink_faults sink = sink.faults
 
+-- how often it took none of a piece that had some
+abbrev pub sink_zero_writes : MemorySink → ℕ
+sink_zero_writes sink = sink.zero_writes
+
 -- how often it was written to
 abbrev pub sink_writes : MemorySink → ℕ
 sink_writes sink = sink.writes

@@ -1,10 +1,10 @@
 // A sink in memory.
 ghost use Rattle.std.specs.Prelude.{◌≡◌, ◌≤◌, length, OnErr, OnOk, IfOk, Some, IsTrue, ◌↔◌};
 ghost use Rattle.std.specs.List.{Contains};
-ghost use Rattle.gno_port.specs.Causes.{Rose};
+ghost use Rattle.gno_port.specs.Causes.{Rose, TookNone};
 ghost use Rattle.gno_port.specs.Streams.{Writes};
 ghost use Rattle.gno_port.specs.Failing.{next_number};
-ghost use Rattle.gno_port.specs.MemorySink.{bytes_held, sink_faults, sink_writes, sink_fails, sink_zeros, FailsNextWrite, TakesNone};
+ghost use Rattle.gno_port.specs.MemorySink.{bytes_held, sink_faults, sink_writes, sink_fails, sink_zero_writes, sink_zeros, FailsNextWrite, TakesNone};
 
 use crate::failing::is_to_fail;
 use crate::{Called, FailAt, Failed, Sink};
@@ -19,6 +19,8 @@ pub struct MemorySink {
     zeros: List<u64>,
     writes: u64,
     faults: u64,
+    // How often it took none of a piece that had some.
+    zero_writes: u64,
 }
 
 impl MemorySink {
@@ -28,7 +30,7 @@ impl MemorySink {
         ensures held { bytes_held result ≡ holds }
         ensures fails { sink_fails result ≡ fails }
         ensures zeros { sink_zeros result ≡ zeros }
-        ensures counts { (sink_writes result ≡ 0) × (sink_faults result ≡ 0) }
+        ensures counts { (sink_writes result ≡ 0) × (sink_faults result ≡ 0) × (sink_zero_writes result ≡ 0) }
     {
         MemorySink {
             holds,
@@ -36,6 +38,7 @@ impl MemorySink {
             zeros,
             writes: 0,
             faults: 0,
+            zero_writes: 0,
         }
     }
 
@@ -50,16 +53,20 @@ impl MemorySink {
 
 impl Sink for MemorySink {
     ghost use Rattle.std.specs.Prelude.{Some};
-    ghost use Rattle.gno_port.specs.MemorySink.{bytes_held, sink_faults};
+    ghost use Rattle.gno_port.specs.MemorySink.{bytes_held, sink_faults, sink_zero_writes};
 
     ghost holds = { λ sink. Some (bytes_held sink) };
 
     ghost faults = { sink_faults };
 
+    ghost zero_writes = { sink_zero_writes };
+
     fn write(&mut self, piece: &[u8]) -> Result<usize, Failed>
         ensures bytes { Writes (Some (bytes_held self.old)) (Some (bytes_held self.new)) result piece.now }
         ensures cause { OnErr result (Rose (sink_faults self.old) (sink_faults self.new)) }
+        ensures cause_zero { TookNone result piece.now → Rose (sink_zero_writes self.old) (sink_zero_writes self.new) }
         ensures later { sink_faults self.old ≤ sink_faults self.new }
+        ensures later_zero { sink_zero_writes self.old ≤ sink_zero_writes self.new }
 
         // It fails where it is to, and takes the whole piece or nothing.
         ensures ok { OnOk result (FailsNextWrite self.old → ⊥) }
@@ -67,6 +74,10 @@ impl Sink for MemorySink {
         ensures whole { IfOk result (λ count. (TakesNone self.old → ⊥) → count ≡ length piece.now) }
         ensures lists { (sink_fails self.new ≡ sink_fails self.old) × (sink_zeros self.new ≡ sink_zeros self.old) }
         ensures writes { sink_writes self.new ≡ next_number (sink_writes self.old) }
+
+        // It counts a write that takes none of a piece that has some, and no other.
+        ensures counted { TookNone result piece.now → sink_zero_writes self.new ≡ next_number (sink_zero_writes self.old) }
+        ensures uncounted { (TookNone result piece.now → ⊥) → sink_zero_writes self.new ≡ sink_zero_writes self.old }
     {
         self.writes = self.writes.saturating_add(1);
         if is_to_fail(self.fails.as_slice(), Called::Write, self.writes) {
@@ -74,6 +85,9 @@ impl Sink for MemorySink {
             return Err(Failed);
         }
         if has_number(self.zeros.as_slice(), self.writes) {
+            if !piece.is_empty() {
+                self.zero_writes = self.zero_writes.saturating_add(1);
+            }
             return Ok(0);
         }
         let Ok(()) = self.holds.extend_from_slice(piece) else {

@@ -3,8 +3,8 @@ ghost use Rattle.std.specs.Prelude.{◌≡◌, true};
 ghost use Rattle.gno_port.specs.MemoryKeeper.{has_open};
 
 use crate::{
-    Called, Changes, FailAt, KeepFault, Keeper, KeptRow, KeptTable, MemoryKeeper, MemorySink,
-    MemorySource, ReadFault, WriteFault, read_all, write_all,
+    Called, Changes, FailAt, Failed, KeepFault, Keeper, KeptRow, KeptTable, MemoryKeeper,
+    MemorySink, MemorySource, ReadFault, Source, WriteFault, read_all, write_all,
 };
 use gno_base::{Bytes, List};
 use std::alloc::{AllocError, Global};
@@ -39,6 +39,36 @@ fn a_source_is_read_within_its_limit(rt: HostRuntime) -> Result<(), Fail> {
             "read {number}, limit {limit}"
         );
     }
+    Ok(())
+}
+
+// A source without end: a read fills the buffer, and nothing is told.
+#[derive(Drop)]
+struct Endless {
+    reads: u64,
+}
+
+impl Source for Endless {
+    ghost use Rattle.std.specs.Prelude.{None};
+
+    ghost left = { λ s. None };
+
+    ghost faults = { λ s. 0 };
+
+    fn read(&mut self, buf: &mut [u8]) -> Result<usize, Failed> {
+        self.reads = self.reads.saturating_add(1);
+        buf.fill(b'x');
+        Ok(buf.len())
+    }
+}
+
+#[test]
+fn a_source_without_end_is_left_soon(rt: HostRuntime) -> Result<(), Fail> {
+    let mut source = Endless { reads: 0 };
+    let read = read_all(rt.alloc(), &mut source, 10_000);
+    assert_eq!(rt; read.map(|text| text.len()), Err(ReadFault::TooLong));
+    // The third block of 4,096 bytes is the first that passes the limit.
+    assert_eq!(rt; source.reads, 3);
     Ok(())
 }
 
