@@ -1,6 +1,6 @@
 // Performing one item: its reply and text, its commit, and then the writing of the text.
 ghost use Rattle.std.specs.Prelude.{◌≡◌, ◌≢◌, ◌<◌, ◌≤◌, ◌+◌, ◌^◌, true, None, ℕ, List, IfOk, IfErr, IfSome, IsSome, OnOk, OnErr, IsErrOf};
-ghost use Rattle.gno_port.specs.Causes.{Rose};
+ghost use Rattle.gno_port.specs.Causes.{CutsShort, Rose};
 ghost use Rattle.gno_port.specs.Streams.{Gained};
 ghost use Rattle.gno_items.specs.Memory.{package_of, with_new_values, with_package};
 ghost use Rattle.gno_items.specs.Session.{is_ok, replied, shown};
@@ -61,7 +61,10 @@ pub(crate) fn perform<K: Keeper, O: Sink>(
     ensures unwritten { IfErr result (λ fault. IsBeforeCommit fault → O.holds out.new ≡ O.holds out.old) }
     ensures unstored { IfErr result (λ fault. IsBeforeCommit fault → K.tables keeper.new ≡ K.tables keeper.old) }
     ensures store { IsErrOf result ItemFault.Store → Rose (K.faults keeper.old) (K.faults keeper.new) }
+    ensures write { IsErrOf result ItemFault.Write → CutsShort (O.faults out.old) (O.faults out.new) (O.zero_writes out.old) (O.zero_writes out.new) }
     ensures later { K.faults keeper.old ≤ K.faults keeper.new }
+    ensures later_out { O.faults out.old ≤ O.faults out.new }
+    ensures later_zero { O.zero_writes out.old ≤ O.zero_writes out.new }
 {
     match item {
         Item::Add {
@@ -132,7 +135,10 @@ fn finish_add<K: Keeper, O: Sink>(
     ensures unwritten { IfErr result (λ fault. IsBeforeCommit fault → O.holds out.new ≡ O.holds out.old) }
     ensures unstored { IfErr result (λ fault. IsBeforeCommit fault → K.tables keeper.new ≡ K.tables keeper.old) }
     ensures store { IsErrOf result ItemFault.Store → Rose (K.faults keeper.old) (K.faults keeper.new) }
+    ensures write { IsErrOf result ItemFault.Write → CutsShort (O.faults out.old) (O.faults out.new) (O.zero_writes out.old) (O.zero_writes out.new) }
     ensures later { K.faults keeper.old ≤ K.faults keeper.new }
+    ensures later_out { O.faults out.old ≤ O.faults out.new }
+    ensures later_zero { O.zero_writes out.old ≤ O.zero_writes out.new }
 {
     let Added { reply, held } = added;
     let Ok(text) = item_text(alloc, done + 1, item, &reply) else {
@@ -205,7 +211,10 @@ fn finish_call<K: Keeper, O: Sink>(
     ensures unwritten { IfErr result (λ fault. IsBeforeCommit fault → O.holds out.new ≡ O.holds out.old) }
     ensures unstored { IfErr result (λ fault. IsBeforeCommit fault → K.tables keeper.new ≡ K.tables keeper.old) }
     ensures store { IsErrOf result ItemFault.Store → Rose (K.faults keeper.old) (K.faults keeper.new) }
+    ensures write { IsErrOf result ItemFault.Write → CutsShort (O.faults out.old) (O.faults out.new) (O.zero_writes out.old) (O.zero_writes out.new) }
     ensures later { K.faults keeper.old ≤ K.faults keeper.new }
+    ensures later_out { O.faults out.old ≤ O.faults out.new }
+    ensures later_zero { O.zero_writes out.old ≤ O.zero_writes out.new }
 {
     let Called { reply, values } = called;
     let Ok(text) = item_text(alloc, done + 1, item, &reply) else {
@@ -272,6 +281,9 @@ fn write_text<O: Sink>(out: &mut O, text: &[u8]) -> Result<(), ItemFault>
     ensures written { OnOk result (Gained (O.holds out.old) (O.holds out.new) text.now) }
     ensures part { OnErr result (GainedPart (O.holds out.old) (O.holds out.new) text.now) }
     ensures fault { IfErr result (λ fault. fault ≡ ItemFault.Write) }
+    ensures cut { OnErr result (CutsShort (O.faults out.old) (O.faults out.new) (O.zero_writes out.old) (O.zero_writes out.new)) }
+    ensures later { O.faults out.old ≤ O.faults out.new }
+    ensures later_zero { O.zero_writes out.old ≤ O.zero_writes out.new }
 {
     match write_all(out, text) {
         Ok(()) => Ok(()),

@@ -1,6 +1,6 @@
 // Running the items of a script, one after another.
 ghost use Rattle.std.specs.Prelude.{◌≡◌, ◌≢◌, ◌<◌, ◌≤◌, ◌^◌, ◌&&◌, true, ℕ, List, IfOk, IfErr, IsSome, OnOk, IsErrOf, length};
-ghost use Rattle.gno_port.specs.Causes.{Rose};
+ghost use Rattle.gno_port.specs.Causes.{CutsShort, Rose};
 ghost use Rattle.gno_port.specs.Streams.{Gained};
 ghost use Rattle.gno_items.specs.Session.{session};
 ghost use Rattle.gno_table.specs.FirstFormat.{Stands};
@@ -37,7 +37,10 @@ pub(crate) fn run_items<K: Keeper, O: Sink>(
     ensures told { IsSome (K.tables keeper.old name.now) → IsSome (K.tables keeper.new name.now) }
     ensures others { (other : List ℕ) → other ≢ name.now → K.tables keeper.new other ≡ K.tables keeper.old other }
     ensures store { IsErrOf result ItemFault.Store → Rose (K.faults keeper.old) (K.faults keeper.new) }
+    ensures write { IsErrOf result ItemFault.Write → CutsShort (O.faults out.old) (O.faults out.new) (O.zero_writes out.old) (O.zero_writes out.new) }
     ensures later { K.faults keeper.old ≤ K.faults keeper.new }
+    ensures later_out { O.faults out.old ≤ O.faults out.new }
+    ensures later_zero { O.zero_writes out.old ≤ O.zero_writes out.new }
 {
     let mut good = true;
     let mut done = 0;

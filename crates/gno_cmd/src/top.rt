@@ -2,7 +2,7 @@
 ghost use Rattle.std.specs.Prelude.{◌≡◌, ◌≢◌, ◌<◌, ◌≤◌, ◌^◌, ◌↔◌, ◌⊎◌, ℕ, List, Option, Some, IfSome, IsSome, codes, map, length};
 ghost use Rattle.std.specs.String.{string_bytes};
 ghost use Rattle.gno_base.specs.declared.names.LimitOf.TheVariants.{Script};
-ghost use Rattle.gno_port.specs.Causes.{Rose};
+ghost use Rattle.gno_port.specs.Causes.{CutsShort, Rose};
 ghost use Rattle.gno_port.specs.Streams.{LostSome};
 ghost use Rattle.gno_port.specs.Tables.{Table};
 ghost use Rattle.gno_items.specs.declared.memory.Package.{Package};
@@ -48,6 +48,7 @@ pub fn gno<I: Source, O: Sink, E: Sink, K: Keeper>(
     ensures others { (name : List ℕ) (other : List ℕ) → AreReplayWords (map string_bytes words.now) name → other ≢ name → K.tables result.1 other ≡ K.tables keeper other }
     ensures usage { (word : ℕ) → (result.0 ≡ Status.Usage word) ↔ (usage_fault (map string_bytes words.now) ≡ Some word) }
     ensures read { result.0 ≡ Status.ReadFault → Rose (I.faults input.old) (I.faults input.new) }
+    ensures write { result.0 ≡ Status.WriteFault → CutsShort (O.faults out.old) (O.faults out.new) (O.zero_writes out.old) (O.zero_writes out.new) }
     ensures store { result.0 ≡ Status.StoreFault → Rose (K.faults keeper) (K.faults result.1) }
     ensures damaged { (key : List ℕ) → result.0 ≡ Status.Damaged key → FindsDamage (map string_bytes words.now) (K.tables keeper) key }
     ensures script { (line : ℕ) → result.0 ≡ Status.ScriptFault line → ReadsFault (I.left input.old) (I.left input.new) line }
@@ -80,6 +81,7 @@ fn replay<I: Source, O: Sink, K: Keeper>(
     ensures others { (other : List ℕ) → other ≢ name.now → K.tables keeper.new other ≡ K.tables keeper.old other }
     ensures usage { (word : ℕ) → result ≢ Status.Usage word }
     ensures read { result ≡ Status.ReadFault → Rose (I.faults input.old) (I.faults input.new) }
+    ensures write { result ≡ Status.WriteFault → CutsShort (O.faults out.old) (O.faults out.new) (O.zero_writes out.old) (O.zero_writes out.new) }
     ensures store { result ≡ Status.StoreFault → Rose (K.faults keeper.old) (K.faults keeper.new) }
     ensures damaged { (key : List ℕ) → result ≡ Status.Damaged key → (key ≡ codes "F") × IsNotFirst (K.tables keeper.old name.now) }
     ensures script { (line : ℕ) → result ≡ Status.ScriptFault line → ReadsFault (I.left input.old) (I.left input.new) line }
@@ -116,6 +118,7 @@ fn run_script<O: Sink, K: Keeper>(
     ensures damaged { (key : List ℕ) → result ≡ Status.Damaged key → (key ≡ codes "F") × IsNotFirst (K.tables keeper.old name.now) }
     ensures others { (other : List ℕ) → other ≢ name.now → K.tables keeper.new other ≡ K.tables keeper.old other }
     ensures late { IsLate result }
+    ensures write { result ≡ Status.WriteFault → CutsShort (O.faults out.old) (O.faults out.new) (O.zero_writes out.old) (O.zero_writes out.new) }
     ensures store { result ≡ Status.StoreFault → Rose (K.faults keeper.old) (K.faults keeper.new) }
 {
     match keeper.open(alloc, name) {

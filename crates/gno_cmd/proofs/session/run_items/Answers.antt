@@ -38,6 +38,8 @@ loop-item-preserved g c =
       told = λ told. c.in_ok-ran.ensures.told (inv.told told);
       others = λ other ne. c.in_ok-ran.ensures.others other ne ∙ inv.others other ne;
       named = (subst (λ (rest : List Item). AreNamed rest) items inv.named).1;
+      later_out = omega (arith, inv.later_out, c.in_ok-ran.ensures.later_out);
+      later_zero = omega (arith, inv.later_zero, c.in_ok-ran.ensures.later_zero);
       later = omega (arith, inv.later, c.in_ok-ran.ensures.later);
     }
 

@@ -20,5 +20,7 @@ invariant-loop-item g l = record {
   told : IsSome (g.K.Keeper.tables l.fn.keeper l.name) → IsSome (g.K.Keeper.tables l.keeper l.name);
   others : (other : List ℕ) → other ≢ l.name → g.K.Keeper.tables l.keeper other ≡ g.K.Keeper.tables l.fn.keeper other;
   named : AreNamed (drop l.item-index l.items);
+  later_out : g.O.Sink.faults l.fn.out ≤ g.O.Sink.faults l.out;
+  later_zero : g.O.Sink.zero_writes l.fn.out ≤ g.O.Sink.zero_writes l.out;
   later : g.K.Keeper.faults l.fn.keeper ≤ g.K.Keeper.faults l.keeper;
 }
