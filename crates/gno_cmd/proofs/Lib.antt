@@ -1,3 +1,4 @@
+pub mod Complete
 pub mod Fronts
 pub mod Memories
 pub mod Named

@@ -7,6 +7,7 @@ ghost use Rattle.gno_port.specs.Streams.{LostSome};
 ghost use Rattle.gno_port.specs.Tables.{Table};
 ghost use Rattle.gno_items.specs.declared.memory.Package.{Package};
 ghost use Rattle.gno_table.specs.FirstFormat.{IsNotFirst};
+ghost use Rattle.gno_cmd.specs.Given.{GivesFault, GivesScript, GivesTooMuch};
 ghost use Rattle.gno_cmd.specs.Headline.{Continues, FindsDamage, GainedFront, HasMemory, IsEarly, IsLate, IsOver, IsStopped, Leaves, ReadsFault, Refuses, Replays, ReplaysAt, Stops, StopsAt, end_status};
 ghost use Rattle.gno_cmd.specs.Performing.{AreNamed};
 ghost use Rattle.gno_cmd.specs.Statuses.{status_line};
@@ -56,6 +57,10 @@ pub fn gno<I: Source, O: Sink, E: Sink, K: Keeper>(
     ensures front { LostSome (I.left input.old) (I.left input.new) }
     ensures untouched { IsEarly result.0 → result.1 ≡ keeper }
     ensures unwritten { IsEarly result.0 → O.holds out.new ≡ O.holds out.old }
+    ensures complete { (name : List ℕ) (memory : List Package) → GivesScript (map string_bytes words.now) (I.left input.old) name → HasMemory (K.tables keeper name) memory → IsOver result.0 ⊎ (result.0 ≡ Status.NoMemory) ⊎ Rose (I.faults input.old) (I.faults input.new) ⊎ CutsShort (O.faults out.old) (O.faults out.new) (O.zero_writes out.old) (O.zero_writes out.new) ⊎ Rose (K.faults keeper) (K.faults result.1) }
+    ensures refused { (name : List ℕ) → GivesScript (map string_bytes words.now) (I.left input.old) name → IsSome (K.tables keeper name) → IsNotFirst (K.tables keeper name) → (result.0 ≡ Status.Damaged (codes "F")) ⊎ (result.0 ≡ Status.NoMemory) ⊎ Rose (I.faults input.old) (I.faults input.new) ⊎ Rose (K.faults keeper) (K.faults result.1) }
+    ensures faulty { (line : ℕ) → GivesFault (map string_bytes words.now) (I.left input.old) line → (result.0 ≡ Status.ScriptFault line) ⊎ (result.0 ≡ Status.NoMemory) ⊎ Rose (I.faults input.old) (I.faults input.new) }
+    ensures too_long { GivesTooMuch (map string_bytes words.now) (I.left input.old) → (result.0 ≡ Status.Limit Script) ⊎ (result.0 ≡ Status.NoMemory) ⊎ Rose (I.faults input.old) (I.faults input.new) }
     ensures line { GainedFront (E.holds err.old) (E.holds err.new) (status_line result.0) }
 {
     let mut kept = keeper;
