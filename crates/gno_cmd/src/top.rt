@@ -2,7 +2,8 @@
 ghost use Rattle.std.specs.Prelude.{◌≡◌, ◌≢◌, ◌<◌, ◌≤◌, ◌^◌, ◌↔◌, ◌⊎◌, ℕ, List, Option, Some, IfSome, map, length};
 ghost use Rattle.std.specs.String.{string_bytes};
 ghost use Rattle.gno_base.specs.declared.names.LimitOf.TheVariants.{Script};
-ghost use Rattle.gno_port.specs.Causes.{Rose};
+ghost use Rattle.gno_port.specs.Causes.{CutsShort, Rose};
+ghost use Rattle.gno_port.specs.Streams.{Gained};
 ghost use Rattle.gno_port.specs.Tables.{Table};
 ghost use Rattle.gno_script.specs.declared.item.Item.{Item as ScriptItem};
 ghost use Rattle.gno_items.specs.declared.memory.Package.{Package};
@@ -54,13 +55,14 @@ pub fn gno<I: Source, O: Sink, E: Sink, K: Keeper>(
     ensures untouched { IsEarly result.0 → result.1 ≡ keeper }
     ensures unwritten { IsEarly result.0 → O.holds out.new ≡ O.holds out.old }
     ensures line { GainedFront (E.holds err.old) (E.holds err.new) (status_line result.0) }
+    ensures whole_line { Gained (E.holds err.old) (E.holds err.new) (status_line result.0) ⊎ CutsShort (E.faults err.old) (E.faults err.new) (E.zero_writes err.old) (E.zero_writes err.new) }
 {
     let mut kept = keeper;
     let status = match table_name(words) {
         Ok(name) => replay(alloc, name.as_bytes(), input, out, &mut kept),
         Err(word) => Status::Usage(word),
     };
-    write_line(alloc, err, &status);
+    write_line(err, &status);
     (status, kept)
 }
 
