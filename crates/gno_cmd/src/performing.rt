@@ -1,6 +1,6 @@
 // Performing one item: its reply and text, its commit, and then the writing of the text.
 ghost use Rattle.std.specs.Prelude.{◌≡◌, ◌≢◌, ◌<◌, ◌≤◌, ◌+◌, ◌^◌, true, None, ℕ, List, IfOk, IfErr, IfSome, IsSome, OnOk, OnErr, IsErrOf};
-ghost use Rattle.gno_port.specs.Causes.{Rose};
+ghost use Rattle.gno_port.specs.Causes.{CutsShort, Rose};
 ghost use Rattle.gno_port.specs.Streams.{Gained};
 ghost use Rattle.gno_items.specs.Memory.{package_of, with_new_values, with_package};
 ghost use Rattle.gno_items.specs.Session.{is_ok, replied, shown};
@@ -265,6 +265,9 @@ fn write_text<O: Sink>(out: &mut O, text: &[u8]) -> Result<(), ItemFault>
     ensures written { OnOk result (Gained (O.holds out.old) (O.holds out.new) text.now) }
     ensures part { OnErr result (GainedPart (O.holds out.old) (O.holds out.new) text.now) }
     ensures fault { IfErr result (λ fault. fault ≡ ItemFault.Write) }
+    ensures cut { OnErr result (CutsShort (O.faults out.old) (O.faults out.new) (O.zero_writes out.old) (O.zero_writes out.new)) }
+    ensures later { O.faults out.old ≤ O.faults out.new }
+    ensures later_zero { O.zero_writes out.old ≤ O.zero_writes out.new }
 {
     match write_all(out, text) {
         Ok(()) => Ok(()),
