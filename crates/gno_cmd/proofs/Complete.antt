@@ -1,6 +1,6 @@
 -- Each status but want of memory has a cause: so a call that gives none of the causes has none of the statuses.
-use Rattle.std.proofs.Common.{◌≡◌, ◌≢◌, ◌≤◌, ◌<◌, ◌⊎◌, ◌∙◌, ℕ, List, [], ◌∷◌, ◌++◌, inl, inr, refl, sym, ap, subst, arith, length}
-use Rattle.std.specs.Prelude.{Option, Some, None, IfSome, IsSome, true, codes}
+use Rattle.std.proofs.Common.{◌≡◌, ◌≢◌, ◌≤◌, ◌<◌, ◌⊎◌, ◌∙◌, ℕ, List, ◌++◌, inl, inr, refl, sym, ap, subst, arith, length}
+use Rattle.std.specs.Prelude.{Option, Some, None, IfSome, IsSome, codes}
 use Rattle.std.proofs.lemmas.List.{append-nil}
 use Rattle.gno_base.specs.declared.names.LimitOf.{LimitOf}
 use Rattle.gno_base.specs.declared.names.LimitOf.TheVariants.{Script}
@@ -13,10 +13,10 @@ use Rattle.gno_script.specs.Script.{IsScript}
 use Rattle.gno_script.specs.Faults.{IsFirstFault}
 use Rattle.gno_script.proofs.Fronts.{no-fault, one-fault}
 use Rattle.gno_items.specs.declared.memory.Package.{Package}
-use Rattle.gno_table.specs.FirstFormat.{IsFirst, IsNotFirst}
+use Rattle.gno_table.specs.FirstFormat.{IsNotFirst}
 use Rattle.gno_cmd.specs.declared.status.Status.{Status}
 use Rattle.gno_cmd.specs.declared.status.Status.TheVariants.{Done, SomeFailed, Usage, ReadFault, WriteFault, StoreFault, Damaged, NoMemory, ScriptFault, Limit}
-use Rattle.gno_cmd.specs.Given.{Gives, GivesFault, GivesScript, GivesTooMuch}
+use Rattle.gno_cmd.specs.Given.{GivesFault, GivesScript, GivesTooMuch}
 use Rattle.gno_cmd.specs.Headline.{Continues, HasMemory, IsOver, IsStopped, ReadsFault, ReadsScript, ReplaysAt, StopsAt}
 use Rattle.gno_cmd.specs.Usage.{AreReplayWords, usage_fault}
 use Rattle.gno_cmd.proofs.ThreeWords.{last_one}
@@ -83,7 +83,6 @@ was_first None items held held' table' status outcome told not_first = cc
 was_first (Some table) items held held' table' status outcome told not_first = let goes = outcome table refl in not_first goes.memory goes.was
 
 module _ (words : List (List ℕ)) (name : List ℕ) (left left' held held' : Option (List ℕ)) (tables tables' : List ℕ → Option Table) (input input' out out' zeros zeros' store store' : ℕ) where
-
   -- a right script on a table of the first format
   pub complete : (status : Status) → AreReplayWords words name → Knows status name left left' held held' tables tables' input input' out out' zeros zeros' store store' →
       (named : List ℕ) (memory : List Package) → GivesScript words left named → HasMemory (tables named) memory →

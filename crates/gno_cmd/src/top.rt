@@ -3,7 +3,7 @@ ghost use Rattle.std.specs.Prelude.{◌≡◌, ◌≢◌, ◌<◌, ◌≤◌, �
 ghost use Rattle.std.specs.String.{string_bytes};
 ghost use Rattle.gno_base.specs.declared.names.LimitOf.TheVariants.{Script};
 ghost use Rattle.gno_port.specs.Causes.{CutsShort, Rose};
-ghost use Rattle.gno_port.specs.Streams.{LostSome};
+ghost use Rattle.gno_port.specs.Streams.{Gained, LostSome};
 ghost use Rattle.gno_port.specs.Tables.{Table};
 ghost use Rattle.gno_items.specs.declared.memory.Package.{Package};
 ghost use Rattle.gno_table.specs.FirstFormat.{IsNotFirst};
@@ -62,13 +62,14 @@ pub fn gno<I: Source, O: Sink, E: Sink, K: Keeper>(
     ensures faulty { (line : ℕ) → GivesFault (map string_bytes words.now) (I.left input.old) line → (result.0 ≡ Status.ScriptFault line) ⊎ (result.0 ≡ Status.NoMemory) ⊎ Rose (I.faults input.old) (I.faults input.new) }
     ensures too_long { GivesTooMuch (map string_bytes words.now) (I.left input.old) → (result.0 ≡ Status.Limit Script) ⊎ (result.0 ≡ Status.NoMemory) ⊎ Rose (I.faults input.old) (I.faults input.new) }
     ensures line { GainedFront (E.holds err.old) (E.holds err.new) (status_line result.0) }
+    ensures whole_line { Gained (E.holds err.old) (E.holds err.new) (status_line result.0) ⊎ CutsShort (E.faults err.old) (E.faults err.new) (E.zero_writes err.old) (E.zero_writes err.new) }
 {
     let mut kept = keeper;
     let status = match table_name(words) {
         Ok(name) => replay(alloc, name.as_bytes(), input, out, &mut kept),
         Err(word) => Status::Usage(word),
     };
-    write_line(alloc, err, &status);
+    write_line(err, &status);
     (status, kept)
 }
 

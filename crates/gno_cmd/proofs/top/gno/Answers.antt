@@ -15,13 +15,13 @@ known : (g : given.Over) (c : goal.After-write_line g) (name : List ℕ) → Are
     (g.K.Keeper.faults c.args.keeper) (g.K.Keeper.faults c.match-table_name.kept)
 known g c name right =
     elim c.match-table_name.branch [
-      in-Ok w ↦
-        let named = same_name _ w.in-Ok.name.now name w.in-Ok.ensures.name right in
-        let same = w.as_bytes.ensures.value ∙ named in
-        let facts = w.replay-status.ensures in
-        rw (w.status-is, w.input-is, w.out-is, w.kept-is) (at_same_name w.replay-status.result _ name _ _ _ _ _ _ _ _ _ _ _ _ _ _ same
+      | in-Ok w ↦
+          let named = same_name _ w.in-Ok.name.now name w.in-Ok.ensures.name right in
+          let same = w.as_bytes.ensures.value ∙ named in
+          let facts = w.replay-status.ensures in
+          rw (w.status-is, w.input-is, w.out-is, w.kept-is) (at_same_name w.replay-status.result _ name _ _ _ _ _ _ _ _ _ _ _ _ _ _ same
           (record { over = facts.over; stopped = facts.stopped; usage = facts.usage; read = facts.read; write = facts.write; stored = facts.store; damaged = facts.damaged; script = facts.script; limit = facts.limit }))
-    | in-Err w ↦ absurd (right_words_have_no_fault _ name w.in-Err.word right w.in-Err.ensures.fault)
+      | in-Err w ↦ absurd (right_words_have_no_fault _ name w.in-Err.word right w.in-Err.ensures.fault)
     ]
 
 pub returns-clause-complete : goal.returns-clause-complete
