@@ -79,8 +79,8 @@ first_or_not (Some table) memory has not_first = not_first memory has
 
 was_first : (table : Option Table) (items : List Item) (held held' : Option (List ℕ)) (table' : Option Table) (status : Status) →
     ((t : Table) → table ≡ Some t → Continues t items held held' table' status) → IsSome table → IsNotFirst table → ⊥
-was_first None items held held' table' status outcome told not_first = cc
-was_first (Some table) items held held' table' status outcome told not_first = let goes = outcome table refl in not_first goes.memory goes.was
+was_first None items held held' table' status outcome told unlike = cc
+was_first (Some table) items held held' table' status outcome told unlike = let goes = outcome table refl in unlike goes.memory goes.was
 
 module _ (words : List (List ℕ)) (name : List ℕ) (left left' held held' : Option (List ℕ)) (tables tables' : List ℕ → Option Table) (input input' out out' zeros zeros' store store' : ℕ) where
   -- a right script on a table of the first format
@@ -145,23 +145,23 @@ module _ (words : List (List ℕ)) (name : List ℕ) (left left' held held' : Op
   at_name : (status : Status) → Knows status name left left' held held' tables tables' input input' out out' zeros zeros' store store' →
       (named : List ℕ) → GivesScript words left named → IsSome (tables name) → IsNotFirst (tables name) →
       (status ≡ Damaged (codes "F")) ⊎ (status ≡ NoMemory) ⊎ Rose input input' ⊎ Rose store store'
-  at_name Done knows named given told not_first = let ran = knows.over tt in absurd (was_first _ ran.items held held' _ Done ran.outcome told not_first)
-  at_name SomeFailed knows named given told not_first = let ran = knows.over tt in absurd (was_first _ ran.items held held' _ SomeFailed ran.outcome told not_first)
-  at_name (Usage word) knows named given told not_first = absurd (knows.usage word refl)
-  at_name ReadFault knows named given told not_first = inr (inr (inl (knows.read refl)))
-  at_name WriteFault knows named given told not_first = absurd (((knows.stopped tt).refused told not_first).no_write_fault refl)
-  at_name StoreFault knows named given told not_first = inr (inr (inr (knows.stored refl)))
-  at_name (Damaged key) knows named given told not_first = inl (ap Damaged (knows.damaged key refl).0)
-  at_name NoMemory knows named given told not_first = inr (inl refl)
-  at_name (ScriptFault line) knows named given told not_first =
+  at_name Done knows named given told unlike = let ran = knows.over tt in absurd (was_first _ ran.items held held' _ Done ran.outcome told unlike)
+  at_name SomeFailed knows named given told unlike = let ran = knows.over tt in absurd (was_first _ ran.items held held' _ SomeFailed ran.outcome told unlike)
+  at_name (Usage word) knows named given told unlike = absurd (knows.usage word refl)
+  at_name ReadFault knows named given told unlike = inr (inr (inl (knows.read refl)))
+  at_name WriteFault knows named given told unlike = absurd (((knows.stopped tt).not_first told unlike).no_write_fault refl)
+  at_name StoreFault knows named given told unlike = inr (inr (inr (knows.stored refl)))
+  at_name (Damaged key) knows named given told unlike = inl (ap Damaged (knows.damaged key refl).0)
+  at_name NoMemory knows named given told unlike = inr (inl refl)
+  at_name (ScriptFault line) knows named given told unlike =
       let read = fault_read left left' given.text line given.given.told (knows.script line refl) in
       absurd (no-fault _ _ _ given.script read.1)
-  at_name (Limit which) knows named given told not_first = absurd (too_long left given.text given.given.told given.within (knows.limit which refl).1)
+  at_name (Limit which) knows named given told unlike = absurd (too_long left given.text given.given.told given.within (knows.limit which refl).1)
 
   -- a right script on a table that is not of the first format
-  pub refused : (status : Status) → AreReplayWords words name → Knows status name left left' held held' tables tables' input input' out out' zeros zeros' store store' →
+  pub not_first : (status : Status) → AreReplayWords words name → Knows status name left left' held held' tables tables' input input' out out' zeros zeros' store store' →
       (named : List ℕ) → GivesScript words left named → IsSome (tables named) → IsNotFirst (tables named) →
       (status ≡ Damaged (codes "F")) ⊎ (status ≡ NoMemory) ⊎ Rose input input' ⊎ Rose store store'
-  refused status right knows named given told not_first =
+  not_first status right knows named given told unlike =
       let same = same_name words named name given.given.right_words right in
-      at_name status knows named given (subst (λ (n : List ℕ). IsSome (tables n)) same told) (subst (λ (n : List ℕ). IsNotFirst (tables n)) same not_first)
+      at_name status knows named given (subst (λ (n : List ℕ). IsSome (tables n)) same told) (subst (λ (n : List ℕ). IsNotFirst (tables n)) same unlike)

@@ -78,7 +78,7 @@ Leaves (ScriptFault line) memory items held held' table table' = Unit {0}
 Leaves (Limit which) memory items held held' table table' = Unit {0}
 
 -- The table is not of the first format: nothing was written, and its rows stay.
-pub record Refuses (held held' : Option (List ℕ)) (table table' : Option Table) (status : Status) : Type 0 where
+pub record DoesNothing (held held' : Option (List ℕ)) (table table' : Option Table) (status : Status) : Type 0 where
   pub unwritten : held' ≡ held
   pub unchanged : table' ≡ table
   pub no_write_fault : status ≢ WriteFault
@@ -113,7 +113,7 @@ pub record StopsAt (name : List ℕ) (left left' held held' : Option (List ℕ))
   pub items : List Item
   pub reads : ReadsScript left left' items
   pub outcome : (memory : List Package) → HasMemory (tables name) memory → Leaves status memory items held held' (tables name) (tables' name)
-  pub refused : IsSome (tables name) → IsNotFirst (tables name) → Refuses held held' (tables name) (tables' name) status
+  pub not_first : IsSome (tables name) → IsNotFirst (tables name) → DoesNothing held held' (tables name) (tables' name) status
   pub others : (other : List ℕ) → other ≢ name → tables' other ≡ tables other
 
 -- the words name the table

@@ -8,7 +8,7 @@ ghost use Rattle.gno_port.specs.Tables.{Table};
 ghost use Rattle.gno_items.specs.declared.memory.Package.{Package};
 ghost use Rattle.gno_table.specs.FirstFormat.{IsNotFirst};
 ghost use Rattle.gno_cmd.specs.Given.{GivesFault, GivesScript, GivesTooMuch};
-ghost use Rattle.gno_cmd.specs.Headline.{Continues, FindsDamage, GainedFront, HasMemory, IsEarly, IsLate, IsOver, IsStopped, Leaves, ReadsFault, Refuses, Replays, ReplaysAt, Stops, StopsAt, end_status};
+ghost use Rattle.gno_cmd.specs.Headline.{Continues, FindsDamage, GainedFront, HasMemory, IsEarly, IsLate, IsOver, IsStopped, Leaves, ReadsFault, DoesNothing, Replays, ReplaysAt, Stops, StopsAt, end_status};
 ghost use Rattle.gno_cmd.specs.Performing.{AreNamed};
 ghost use Rattle.gno_cmd.specs.Statuses.{status_line};
 ghost use Rattle.gno_cmd.specs.Usage.{AreReplayWords, usage_fault};
@@ -58,7 +58,7 @@ pub fn gno<I: Source, O: Sink, E: Sink, K: Keeper>(
     ensures untouched { IsEarly result.0 → result.1 ≡ keeper }
     ensures unwritten { IsEarly result.0 → O.holds out.new ≡ O.holds out.old }
     ensures complete { (name : List ℕ) (memory : List Package) → GivesScript (map string_bytes words.now) (I.left input.old) name → HasMemory (K.tables keeper name) memory → IsOver result.0 ⊎ (result.0 ≡ Status.NoMemory) ⊎ Rose (I.faults input.old) (I.faults input.new) ⊎ CutsShort (O.faults out.old) (O.faults out.new) (O.zero_writes out.old) (O.zero_writes out.new) ⊎ Rose (K.faults keeper) (K.faults result.1) }
-    ensures refused { (name : List ℕ) → GivesScript (map string_bytes words.now) (I.left input.old) name → IsSome (K.tables keeper name) → IsNotFirst (K.tables keeper name) → (result.0 ≡ Status.Damaged (codes "F")) ⊎ (result.0 ≡ Status.NoMemory) ⊎ Rose (I.faults input.old) (I.faults input.new) ⊎ Rose (K.faults keeper) (K.faults result.1) }
+    ensures not_first { (name : List ℕ) → GivesScript (map string_bytes words.now) (I.left input.old) name → IsSome (K.tables keeper name) → IsNotFirst (K.tables keeper name) → (result.0 ≡ Status.Damaged (codes "F")) ⊎ (result.0 ≡ Status.NoMemory) ⊎ Rose (I.faults input.old) (I.faults input.new) ⊎ Rose (K.faults keeper) (K.faults result.1) }
     ensures faulty { (line : ℕ) → GivesFault (map string_bytes words.now) (I.left input.old) line → (result.0 ≡ Status.ScriptFault line) ⊎ (result.0 ≡ Status.NoMemory) ⊎ Rose (I.faults input.old) (I.faults input.new) }
     ensures too_long { GivesTooMuch (map string_bytes words.now) (I.left input.old) → (result.0 ≡ Status.Limit Script) ⊎ (result.0 ≡ Status.NoMemory) ⊎ Rose (I.faults input.old) (I.faults input.new) }
     ensures line { GainedFront (E.holds err.old) (E.holds err.new) (status_line result.0) }
@@ -120,7 +120,7 @@ fn run_script<O: Sink, K: Keeper>(
     requires { AreNamed items.now }
     ensures over { IsOver result → (table : Table) → K.tables keeper.old name.now ≡ Some table → Continues table items.now (O.holds out.old) (O.holds out.new) (K.tables keeper.new name.now) result }
     ensures stopped { (memory : List Package) → HasMemory (K.tables keeper.old name.now) memory → Leaves result memory items.now (O.holds out.old) (O.holds out.new) (K.tables keeper.old name.now) (K.tables keeper.new name.now) }
-    ensures refused { IsSome (K.tables keeper.old name.now) → IsNotFirst (K.tables keeper.old name.now) → Refuses (O.holds out.old) (O.holds out.new) (K.tables keeper.old name.now) (K.tables keeper.new name.now) result }
+    ensures not_first { IsSome (K.tables keeper.old name.now) → IsNotFirst (K.tables keeper.old name.now) → DoesNothing (O.holds out.old) (O.holds out.new) (K.tables keeper.old name.now) (K.tables keeper.new name.now) result }
     ensures damaged { (key : List ℕ) → result ≡ Status.Damaged key → (key ≡ codes "F") × IsNotFirst (K.tables keeper.old name.now) }
     ensures others { (other : List ℕ) → other ≢ name.now → K.tables keeper.new other ≡ K.tables keeper.old other }
     ensures late { IsLate result }

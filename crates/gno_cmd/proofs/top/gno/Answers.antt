@@ -2,7 +2,7 @@ use Rattle.std.proofs.Common.{◌∙◌, ℕ, List}
 use Rattle.std.specs.String.{string_bytes}
 use Rattle.std.specs.Prelude.{map}
 use Rattle.gno_cmd.specs.Usage.{AreReplayWords}
-use Rattle.gno_cmd.proofs.Complete.{Knows, at_same_name, complete, faulty, limited, refused, right_words_have_no_fault, same_name}
+use Rattle.gno_cmd.proofs.Complete.{Knows, at_same_name, complete, faulty, limited, not_first, right_words_have_no_fault, same_name}
 use Rattle.gno_cmd.proofs.top.gno.Given as given
 use Rattle.gno_cmd.proofs.top.gno.Goals as goal
 use Rattle.gno_cmd.proofs.top.gno.Goals.{in-Ok, in-Err}
@@ -27,8 +27,8 @@ known g c name right =
 pub returns-clause-complete : goal.returns-clause-complete
 returns-clause-complete g c = λ name memory given has. complete _ name _ _ _ _ _ _ _ _ _ _ _ _ _ _ c.match-table_name.status given.given.right_words (known g c name given.given.right_words) name memory given has
 
-pub returns-clause-refused : goal.returns-clause-refused
-returns-clause-refused g c = λ name given told not_first. refused _ name _ _ _ _ _ _ _ _ _ _ _ _ _ _ c.match-table_name.status given.given.right_words (known g c name given.given.right_words) name given told not_first
+pub returns-clause-not_first : goal.returns-clause-not_first
+returns-clause-not_first g c = λ name given told unlike. not_first _ name _ _ _ _ _ _ _ _ _ _ _ _ _ _ c.match-table_name.status given.given.right_words (known g c name given.given.right_words) name given told unlike
 
 pub returns-clause-faulty : goal.returns-clause-faulty
 returns-clause-faulty g c = λ line given. faulty _ given.name _ _ _ _ _ _ _ _ _ _ _ _ _ _ c.match-table_name.status given.given.right_words (known g c given.name given.given.right_words) line given

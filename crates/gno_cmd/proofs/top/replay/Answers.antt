@@ -8,7 +8,7 @@ use Rattle.gno_script.specs.Script.{IsScript}
 use Rattle.gno_items.specs.declared.memory.Package.{Package}
 use Rattle.gno_table.specs.FirstFormat.{IsNotFirst}
 use Rattle.gno_cmd.specs.declared.status.Status.{Status}
-use Rattle.gno_cmd.specs.Headline.{HasMemory, Leaves, ReadsScript, Refuses, StopsAt}
+use Rattle.gno_cmd.specs.Headline.{HasMemory, Leaves, ReadsScript, DoesNothing, StopsAt}
 use Rattle.gno_cmd.specs.Performing.{AreNamed}
 use Rattle.gno_cmd.proofs.Named.{all_named}
 use Rattle.gno_cmd.proofs.top.replay.Goals as goal
@@ -30,19 +30,19 @@ reads_script left left' text bytes items slice all within b script s = record {
 stops_at : (name : List ℕ) (left left' held held' : Option (List ℕ)) (tables tables' : List ℕ → Option Table) (status : Status) (items : List Item) →
     ReadsScript left left' items →
     ((memory : List Package) → HasMemory (tables name) memory → Leaves status memory items held held' (tables name) (tables' name)) →
-    (IsSome (tables name) → IsNotFirst (tables name) → Refuses held held' (tables name) (tables' name) status) →
+    (IsSome (tables name) → IsNotFirst (tables name) → DoesNothing held held' (tables name) (tables' name) status) →
     ((other : List ℕ) → other ≢ name → tables' other ≡ tables other) →
     StopsAt name left left' held held' tables tables' status
-stops_at name left left' held held' tables tables' status items reads outcome refused others = record { items = items; reads = reads; outcome = outcome; refused = refused; others = others }
+stops_at name left left' held held' tables tables' status items reads outcome not_first others = record { items = items; reads = reads; outcome = outcome; not_first = not_first; others = others }
 
 pub returns-in-Ok-read_script-clause-stopped : goal.returns-in-Ok-read_script-clause-stopped
 returns-in-Ok-read_script-clause-stopped g c = λ stopped.
     stops_at c.args.name.now _ _ _ _ _ _ c.run_script.result c.as_slice-in-Ok-read_script.result.now
     (reads_script _ _ c.in-Ok.text c.as_slice.result.now c.in-Ok-read_script.items _ c.in-Ok.ensures.all c.in-Ok.ensures.within c.as_slice.ensures c.in-Ok-read_script.ensures.items c.as_slice-in-Ok-read_script.ensures)
-    c.run_script.ensures.stopped c.run_script.ensures.refused c.run_script.ensures.others
+    c.run_script.ensures.stopped c.run_script.ensures.not_first c.run_script.ensures.others
 
 pub returns-in-Ok-read_script-clause-memory : goal.returns-in-Ok-read_script-clause-memory
 returns-in-Ok-read_script-clause-memory g c = λ fault. inr (
     stops_at c.args.name.now _ _ _ _ _ _ c.run_script.result c.as_slice-in-Ok-read_script.result.now
     (reads_script _ _ c.in-Ok.text c.as_slice.result.now c.in-Ok-read_script.items _ c.in-Ok.ensures.all c.in-Ok.ensures.within c.as_slice.ensures c.in-Ok-read_script.ensures.items c.as_slice-in-Ok-read_script.ensures)
-    c.run_script.ensures.stopped c.run_script.ensures.refused c.run_script.ensures.others)
+    c.run_script.ensures.stopped c.run_script.ensures.not_first c.run_script.ensures.others)

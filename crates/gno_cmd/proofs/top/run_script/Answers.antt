@@ -5,7 +5,7 @@ use Rattle.gno_items.specs.declared.memory.Package.{Package}
 use Rattle.gno_script.specs.declared.item.Item.{Item}
 use Rattle.gno_table.specs.FirstFormat.{Stands}
 use Rattle.gno_cmd.specs.declared.status.Status.TheVariants.{WriteFault}
-use Rattle.gno_cmd.specs.Headline.{HasMemory, Refuses, StopsBefore, StopsWithin}
+use Rattle.gno_cmd.specs.Headline.{HasMemory, DoesNothing, StopsBefore, StopsWithin}
 use Rattle.gno_cmd.specs.Performing.{IsBeforeCommit}
 use Rattle.gno_cmd.proofs.Memories.{not_both, with_its_memory}
 use Rattle.gno_cmd.proofs.top.run_script.Goals as goal
@@ -26,10 +26,10 @@ returns-in-Err-Write-clause-stopped g c = λ memory has.
     with_its_memory P _ _ _ c.args.name.now _ c.in-Ok-load.packages memory c.open.ensures.tables c.load.ensures.tables c.in-Ok.ensures.ok.1 has c.in-Ok-load.ensures.stands
     (c.run_items.ensures.within (c.in-Err-Write.is ∙ ap Err c.in-Err-Write.field-0-is))
 
-pub returns-in-Err-Write-clause-refused : goal.returns-in-Err-Write-clause-refused
-returns-in-Err-Write-clause-refused g c = λ told not_first.
+pub returns-in-Err-Write-clause-not_first : goal.returns-in-Err-Write-clause-not_first
+returns-in-Err-Write-clause-not_first g c = λ told not_first.
     let here : g.K.Keeper.tables c.open.new.self (g.K.Keeper.open_name c.open.new.self) ≡ g.K.Keeper.tables c.args.keeper.now c.args.name.now = λ i. (c.open.ensures.tables i) (c.in-Ok.ensures.ok.1 i) in
-    absurd {A = Refuses (g.O.Sink.holds c.args.out.now) (g.O.Sink.holds c.run_items.new.out) (g.K.Keeper.tables c.args.keeper.now c.args.name.now) (g.K.Keeper.tables c.run_items.new.keeper c.args.name.now) WriteFault} (not_both _ c.in-Ok-load.packages told not_first (subst (λ (t : Option Table). Stands t c.in-Ok-load.packages) here c.in-Ok-load.ensures.stands))
+    absurd {A = DoesNothing (g.O.Sink.holds c.args.out.now) (g.O.Sink.holds c.run_items.new.out) (g.K.Keeper.tables c.args.keeper.now c.args.name.now) (g.K.Keeper.tables c.run_items.new.keeper c.args.name.now) WriteFault} (not_both _ c.in-Ok-load.packages told not_first (subst (λ (t : Option Table). Stands t c.in-Ok-load.packages) here c.in-Ok-load.ensures.stands))
 
 pub returns-in-Err-Store-clause-stopped : goal.returns-in-Err-Store-clause-stopped
 returns-in-Err-Store-clause-stopped g c =
