@@ -10,11 +10,19 @@ const MOST_TURNS: u32 = 1_000_000;
 pub struct StdSource<R> {
     from: R,
     faults: u64,
+    // How many bytes it gave, and how often it was read at its end.
+    given: u64,
+    ends: u64,
 }
 
 impl<R> StdSource<R> {
     pub fn new(from: R) -> StdSource<R> {
-        StdSource { from, faults: 0 }
+        StdSource {
+            from,
+            faults: 0,
+            given: 0,
+            ends: 0,
+        }
     }
 }
 
@@ -25,10 +33,20 @@ impl<R: Read> Source for StdSource<R> {
 
     ghost faults = { λ s. s.faults };
 
+    ghost given = { λ s. s.given };
+
+    ghost ends = { λ s. s.ends };
+
     fn read(&mut self, buf: &mut [u8]) -> Result<usize, Failed> {
         for _turn in 0..MOST_TURNS {
             match self.from.read(buf) {
-                Ok(count) => return Ok(count),
+                Ok(count) => {
+                    self.given = self.given.saturating_add(count as u64);
+                    if count == 0 && !buf.is_empty() {
+                        self.ends = self.ends.saturating_add(1);
+                    }
+                    return Ok(count);
+                }
                 Err(error) if error.kind() == ErrorKind::Interrupted => {}
                 Err(_) => break,
             }

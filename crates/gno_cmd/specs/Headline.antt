@@ -148,6 +148,19 @@ IsStopped NoMemory = ⊥
 IsStopped (ScriptFault line) = ⊥
 IsStopped (Limit which) = ⊥
 
+-- the status comes only where all of the input was read
+abbrev pub HasRead : Status → Type 0
+HasRead Done = Unit {0}
+HasRead SomeFailed = Unit {0}
+HasRead (Usage word) = ⊥
+HasRead ReadFault = ⊥
+HasRead WriteFault = Unit {0}
+HasRead StoreFault = Unit {0}
+HasRead (Damaged key) = Unit {0}
+HasRead NoMemory = ⊥
+HasRead (ScriptFault line) = Unit {0}
+HasRead (Limit which) = ⊥
+
 -- the keeper was not called yet
 abbrev pub IsEarly : Status → Type 0
 IsEarly Done = ⊥

@@ -1,14 +1,14 @@
 // The top call.
-ghost use Rattle.std.specs.Prelude.{◌≡◌, ◌≢◌, ◌<◌, ◌≤◌, ◌^◌, ◌↔◌, ◌⊎◌, ℕ, List, Option, Some, IfSome, IsSome, codes, map, length};
+ghost use Rattle.std.specs.Prelude.{◌≡◌, ◌≢◌, ◌<◌, ◌≤◌, ◌+◌, ◌^◌, ◌↔◌, ◌⊎◌, ℕ, List, Option, Some, IfSome, IsSome, codes, map, length};
 ghost use Rattle.std.specs.String.{string_bytes};
 ghost use Rattle.gno_base.specs.declared.names.LimitOf.TheVariants.{Script};
-ghost use Rattle.gno_port.specs.Causes.{CutsShort, Rose};
+ghost use Rattle.gno_port.specs.Causes.{CutsShort, Rose, RoseBy};
 ghost use Rattle.gno_port.specs.Streams.{Gained, LostSome};
 ghost use Rattle.gno_port.specs.Tables.{Table};
 ghost use Rattle.gno_items.specs.declared.memory.Package.{Package};
 ghost use Rattle.gno_table.specs.FirstFormat.{IsNotFirst};
 ghost use Rattle.gno_cmd.specs.Given.{GivesFault, GivesScript, GivesTooMuch};
-ghost use Rattle.gno_cmd.specs.Headline.{Continues, FindsDamage, GainedFront, HasMemory, IsEarly, IsLate, IsOver, IsStopped, Leaves, ReadsFault, DoesNothing, Replays, ReplaysAt, Stops, StopsAt, end_status};
+ghost use Rattle.gno_cmd.specs.Headline.{Continues, DoesNothing, FindsDamage, GainedFront, HasMemory, HasRead, IsEarly, IsLate, IsOver, IsStopped, Leaves, ReadsFault, Replays, ReplaysAt, Stops, StopsAt, end_status};
 ghost use Rattle.gno_cmd.specs.Performing.{AreNamed};
 ghost use Rattle.gno_cmd.specs.Statuses.{status_line};
 ghost use Rattle.gno_cmd.specs.Usage.{AreReplayWords, usage_fault};
@@ -55,6 +55,9 @@ pub fn gno<I: Source, O: Sink, E: Sink, K: Keeper>(
     ensures script { (line : ℕ) → result.0 ≡ Status.ScriptFault line → ReadsFault (I.left input.old) (I.left input.new) line }
     ensures limit { (which : LimitOf) → result.0 ≡ Status.Limit which → (which ≡ Script) × IfSome (I.left input.old) (λ text. 67108864 < length text) }
     ensures front { LostSome (I.left input.old) (I.left input.new) }
+    ensures ended { HasRead result.0 → Rose (I.ends input.old) (I.ends input.new) }
+    ensures passed { (which : LimitOf) → result.0 ≡ Status.Limit which → RoseBy 67108865 (I.given input.old) (I.given input.new) }
+    ensures bound { I.given input.new ≤ I.given input.old + 67112960 }
     ensures untouched { IsEarly result.0 → result.1 ≡ keeper }
     ensures unwritten { IsEarly result.0 → O.holds out.new ≡ O.holds out.old }
     ensures complete { (name : List ℕ) (memory : List Package) → GivesScript (map string_bytes words.now) (I.left input.old) name → HasMemory (K.tables keeper name) memory → IsOver result.0 ⊎ (result.0 ≡ Status.NoMemory) ⊎ Rose (I.faults input.old) (I.faults input.new) ⊎ CutsShort (O.faults out.old) (O.faults out.new) (O.zero_writes out.old) (O.zero_writes out.new) ⊎ Rose (K.faults keeper) (K.faults result.1) }
@@ -93,6 +96,9 @@ fn replay<I: Source, O: Sink, K: Keeper>(
     ensures script { (line : ℕ) → result ≡ Status.ScriptFault line → ReadsFault (I.left input.old) (I.left input.new) line }
     ensures limit { (which : LimitOf) → result ≡ Status.Limit which → (which ≡ Script) × IfSome (I.left input.old) (λ text. 67108864 < length text) }
     ensures front { LostSome (I.left input.old) (I.left input.new) }
+    ensures ended { HasRead result → Rose (I.ends input.old) (I.ends input.new) }
+    ensures passed { (which : LimitOf) → result ≡ Status.Limit which → RoseBy 67108865 (I.given input.old) (I.given input.new) }
+    ensures bound { I.given input.new ≤ I.given input.old + 67112960 }
     ensures untouched { IsEarly result → keeper.new ≡ keeper.old }
     ensures unwritten { IsEarly result → O.holds out.new ≡ O.holds out.old }
 {

@@ -13,6 +13,14 @@ bytes_left source = drop source.at source.holds
 abbrev pub source_faults : MemorySource → ℕ
 source_faults source = source.faults
 
+-- how many bytes it gave
+abbrev pub source_given : MemorySource → ℕ
+source_given source = source.given
+
+-- how often it was read at its end
+abbrev pub source_ends : MemorySource → ℕ
+source_ends source = source.ends
+
 -- how often it was read
 abbrev pub source_reads : MemorySource → ℕ
 source_reads source = source.reads

@@ -38,6 +38,8 @@ fn a_source_is_read_within_its_limit(rt: HostRuntime) -> Result<(), Fail> {
             want,
             "read {number}, limit {limit}"
         );
+        assert_eq!(rt; source.given(), if number == 1 { 0 } else { 3 });
+        assert_eq!(rt; source.ends(), u64::from(want.is_ok()));
     }
     Ok(())
 }
@@ -46,6 +48,7 @@ fn a_source_is_read_within_its_limit(rt: HostRuntime) -> Result<(), Fail> {
 #[derive(Drop)]
 struct Endless {
     reads: u64,
+    given: u64,
 }
 
 impl Source for Endless {
@@ -55,20 +58,25 @@ impl Source for Endless {
 
     ghost faults = { λ s. 0 };
 
+    ghost given = { λ s. s.given };
+
+    ghost ends = { λ s. 0 };
+
     fn read(&mut self, buf: &mut [u8]) -> Result<usize, Failed> {
         self.reads = self.reads.saturating_add(1);
         buf.fill(b'x');
+        self.given = self.given.saturating_add(buf.len() as u64);
         Ok(buf.len())
     }
 }
 
 #[test]
 fn a_source_without_end_is_left_soon(rt: HostRuntime) -> Result<(), Fail> {
-    let mut source = Endless { reads: 0 };
+    let mut source = Endless { reads: 0, given: 0 };
     let read = read_all(rt.alloc(), &mut source, 10_000);
     assert_eq!(rt; read.map(|text| text.len()), Err(ReadFault::TooLong));
     // The third block of 4,096 bytes is the first that passes the limit.
-    assert_eq!(rt; source.reads, 3);
+    assert_eq!(rt; (source.reads, source.given), (3, 12_288));
     Ok(())
 }
 

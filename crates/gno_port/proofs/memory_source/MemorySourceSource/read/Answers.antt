@@ -6,9 +6,9 @@ use Rattle.gno_port.proofs.memory_source.MemorySourceSource.read.Goals as goal
 some : List ℕ → Option (List ℕ)
 some x = Some x
 
-pub returns-clause-bytes : goal.returns-clause-bytes
+pub returns-else-count-eq0-clause-bytes : goal.returns-else-count-eq0-clause-bytes
 unfolding some
-returns-clause-bytes c =
+returns-else-count-eq0-clause-bytes c =
     let same : c.rest_from-rest.result.now ≡ drop c.args.self.now.at c.args.self.now.holds = c.rest_from-rest.ensures ∙ ap (drop c.args.self.now.at) c.as_slice-2.ensures in
     let count : c.min-count.result ≡ min (length (drop c.args.self.now.at c.args.self.now.holds)) (length c.args.buf.now) = c.min-count.ensures ∙ ap (λ (t : List ℕ). min (length t) (length c.args.buf.now)) same in
     let len : length c.copy_front.new.buf ≡ length c.args.buf.now = search rules in (
