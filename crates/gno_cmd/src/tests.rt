@@ -1,6 +1,11 @@
+mod faults;
+mod narrow;
+
 use crate::{Status, gno};
+use faults::{Faults, NO_FAULTS};
 use gno_base::{Bytes, List};
 use gno_port::{FailAt, KeptTable, MemoryKeeper, MemorySink, MemorySource};
+use narrow::NarrowSink;
 use std::alloc::Global;
 use std::test::Fail;
 
@@ -21,36 +26,53 @@ fn run_words(
     alloc: Global,
     words: &[String],
     script: &str,
+    faults: &Faults,
     keeper: MemoryKeeper,
 ) -> Result<Left, Fail> {
     let text = Bytes::from_slice(alloc, script.as_bytes())?;
-    let mut input = MemorySource::new(text, List::<FailAt>::new(alloc));
-    let mut out = new_sink(alloc);
-    let mut err = new_sink(alloc);
+    let mut input = MemorySource::new(text, fail_list(alloc, faults.call)?);
+    let mut out = NarrowSink {
+        sink: new_sink(alloc, faults.call, faults.zero_write)?,
+        is_narrow: faults.is_narrow,
+    };
+    let mut err = new_sink(alloc, faults.err_call, faults.err_zero_write)?;
     let (status, keeper) = gno(alloc, words, &mut input, &mut out, &mut err, keeper);
     Ok(Left {
         status,
-        out: out.end(),
+        out: out.sink.end(),
         err: err.end(),
         keeper,
     })
 }
 
-fn new_sink(alloc: Global) -> MemorySink {
-    MemorySink::new(
-        Bytes::new(alloc),
-        List::<FailAt>::new(alloc),
-        List::<u64>::new(alloc),
-    )
+fn fail_list(alloc: Global, call: FailAt) -> Result<List<FailAt>, Fail> {
+    let mut fails = List::<FailAt>::new(alloc);
+    fails.push(call)?;
+    Ok(fails)
+}
+
+fn new_sink(alloc: Global, call: FailAt, zero_write: u64) -> Result<MemorySink, Fail> {
+    let mut zeros = List::<u64>::new(alloc);
+    zeros.push(zero_write)?;
+    Ok(MemorySink::new(Bytes::new(alloc), fail_list(alloc, call)?, zeros))
 }
 
 fn replay(alloc: Global, script: &str, keeper: MemoryKeeper) -> Result<Left, Fail> {
+    replay_with(alloc, script, &NO_FAULTS, keeper)
+}
+
+fn replay_with(
+    alloc: Global,
+    script: &str,
+    faults: &Faults,
+    keeper: MemoryKeeper,
+) -> Result<Left, Fail> {
     let words = vec![in alloc;
         String::from_str(alloc, "replay")?,
         String::from_str(alloc, "-store")?,
         String::from_str(alloc, "demo")?,
     ]?;
-    run_words(alloc, &words, script, keeper)
+    run_words(alloc, &words, script, faults, keeper)
 }
 
 const ADD: &str =
@@ -168,7 +190,7 @@ fn faulty_scripts_and_words(rt: HostRuntime) -> Result<(), Fail> {
     assert_eq!(rt; left.keeper.gets(), 0);
 
     let words = vec![in alloc; String::from_str(alloc, "replay")?]?;
-    let left = run_words(alloc, &words, ADD, new_keeper(alloc))?;
+    let left = run_words(alloc, &words, ADD, &NO_FAULTS, new_keeper(alloc))?;
     assert_eq!(rt; left.status.number(), 2);
     assert_eq!(rt; left.err.as_slice(), b"gno: usage at word 2\n".as_slice());
     Ok(())
