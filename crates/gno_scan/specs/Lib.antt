@@ -1,0 +1,17 @@
+pub mod Characters
+pub mod Classes
+pub mod Closing
+pub mod EscapeForms
+pub mod Escapes
+pub mod Fixed
+pub mod Kinds
+pub mod Longest
+pub mod Names
+pub mod NumberLengths
+pub mod NumberValues
+pub mod Numbers
+pub mod Pieces
+pub mod Places
+pub mod Quoted
+pub mod Scan
+pub mod Tokens
