@@ -5,6 +5,9 @@ ghost use Rattle.gno_scan.specs.declared.token.ScanFault.TheVariants.{At};
 ghost use Rattle.gno_scan.specs.Scan.{IsFirstFault, IsFound, IsFaultless, Scans, Stands};
 ghost use Rattle.gno_scan.specs.Tokens.{Fault as FaultOf, Span, TokensOf};
 
+#[cfg(test)]
+mod tests;
+
 use crate::scanner::{Fault, Scanner};
 use crate::{Pos, ScanFault, Token};
 use gno_base::List;
