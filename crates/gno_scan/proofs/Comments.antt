@@ -1,7 +1,7 @@
 -- Where comments end.
-use Rattle.std.proofs.Common.{◌≡◌, ◌≢◌, ◌∙◌, ◌≤◌, ◌<◌, ◌+◌, ◌-◌, ℕ, suc, List, [], ◌∷◌, ◌++◌, append_assoc, ap, refl, sym, subst, arith, length, take, drop, get_or, length-append, length-take, length-drop}
+use Rattle.std.proofs.Common.{◌≡◌, ◌≢◌, ◌∙◌, ◌≤◌, ◌<◌, ◌+◌, ◌-◌, ℕ, suc, List, [], ◌∷◌, ◌++◌, append_assoc, ap, refl, sym, subst, arith, length, take, drop, get_or, length-append, length-take}
 use Rattle.std.specs.Prelude.{All}
-use Rattle.std.proofs.lemmas.List.{get_or-take, take_all, take_more}
+use Rattle.std.proofs.lemmas.List.{get_or-take, take_more}
 use Rattle.std.proofs.Math.Seq.{get_or-append_seam}
 use Rattle.gno_scan.specs.Closing.{EndsFirst, StandsFirst}
 use Rattle.gno_scan.specs.Longest.{Begins, IsLongest}
@@ -12,9 +12,6 @@ pub starts_with_two : (first second : ℕ) (text : List ℕ) → 2 ≤ length te
 starts_with_two first second [] some a b = absurd (omega (arith, some))
 starts_with_two first second (x ∷ []) some a b = absurd (omega (arith, some))
 starts_with_two first second (x ∷ y ∷ rest) some a b = λ i. a i ∷ b i ∷ rest
-
-pub behind_two : (text : List ℕ) → take (length text - 2) (drop 2 text) ≡ drop 2 text
-behind_two text = take_all (length text - 2) (drop 2 text) (omega (arith, length-drop 2 text))
 
 -- a front without a byte goes no further than where the byte stands first
 before_it : (b : ℕ) (front rest more behind : List ℕ) → All (λ x. x ≢ b) front → front ++ rest ≡ more ++ b ∷ behind → length front ≤ length more

@@ -5,7 +5,7 @@ use Rattle.std.specs.Str.Parse.{digits_value}
 use Rattle.gno_scan.specs.EscapeForms.{BeginsHex, BeginsOctal, BeginsScalar, IsShort}
 use Rattle.gno_scan.specs.Escapes.{AreDigitsIn, IsEscape, letter, quote_itself, octal, hex, little, big}
 use Rattle.gno_scan.specs.Longest.{BeginsWithNone}
-use Rattle.gno_scan.proofs.Fronts.{behind_first, same_head, same_tail, take_front}
+use Rattle.gno_scan.proofs.Fronts.{behind_at, same_head, same_tail, take_front}
 
 -- what stands behind the first byte of a text
 abbrev pub behind : List ℕ → List ℕ
@@ -21,7 +21,7 @@ pub record HasTwo (text : List ℕ) : Type 0 where
 pub has_two : (text : List ℕ) → 2 ≤ length text → get_or text 0 0 ≡ 92 → HasTwo text
 has_two [] size first = absurd (omega (arith, size))
 has_two (a ∷ []) size first = absurd (omega (arith, size))
-has_two (a ∷ b ∷ rest) size first = record { second = b; rest = rest; parts = ap (λ x. x ∷ b ∷ rest) first; behind_it = behind_first (a ∷ b ∷ rest) }
+has_two (a ∷ b ∷ rest) size first = record { second = b; rest = rest; parts = ap (λ x. x ∷ b ∷ rest) first; behind_it = behind_at 1 (a ∷ b ∷ rest) }
 
 pub short_found : (quote : ℕ) (text : List ℕ) → HasTwo text → IsShort quote (get_or (behind text) 0 0) → IsEscape quote (take 2 text)
 short_found quote text two short =

@@ -11,9 +11,6 @@ pub starts_with : (first : ℕ) (text : List ℕ) → nat_eq (length text) 0 ≡
 starts_with first [] some same = cc
 starts_with first (b ∷ bs) some same = ap (λ x. x ∷ bs) same
 
-pub behind_first : (text : List ℕ) → take (length text - 1) (drop 1 text) ≡ drop 1 text
-behind_first text = take_all (length text - 1) (drop 1 text) (omega (arith, length-drop 1 text))
-
 pub same_head : (x y : ℕ) (xs ys : List ℕ) → x ∷ xs ≡ y ∷ ys → x ≡ y
 same_head x y xs ys e = cc
 
