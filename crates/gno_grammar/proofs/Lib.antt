@@ -1,0 +1,13 @@
+pub mod Sets
+pub mod Laws
+pub mod Joins
+pub mod Choices
+pub mod Repeats
+pub mod Untils
+pub mod Empties
+pub mod Levels
+pub mod Answers
+pub mod OneOutcome
+pub mod Loops
+pub mod Plain
+pub mod Words

@@ -1,0 +1,16 @@
+pub mod DeclarationsSound
+pub mod EachCase
+pub mod HeadersSound
+pub mod KindSets
+pub mod Lists
+pub mod ListsSound
+pub mod OperandsSound
+pub mod OperationsSound
+pub mod SignaturesSound
+pub mod SimpleSound
+pub mod Sound
+pub mod StatementsSound
+pub mod TypeEnds
+pub mod TypesSound
+pub mod Words
+pub mod FileLaws

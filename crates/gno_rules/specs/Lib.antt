@@ -1,0 +1,10 @@
+pub mod Declarations
+pub mod Expressions
+pub mod Files
+pub mod Kinds
+pub mod Parts
+pub mod Shapes
+pub mod Signatures
+pub mod Statements
+pub mod Table
+pub mod Types
