@@ -17,7 +17,7 @@ pub struct Pos {
 
 impl Pos {
     /// The place of the first byte of a file.
-    pub(crate) fn first_of(file: u64) -> Pos
+    pub fn first_of(file: u64) -> Pos
         ensures { result ≡ first_of file }
     {
         Pos {
@@ -28,7 +28,7 @@ impl Pos {
     }
 
     /// The place behind some bytes that begin here.
-    pub(crate) fn behind(self, bytes: &[u8]) -> Pos
+    pub fn behind(self, bytes: &[u8]) -> Pos
         requires line { self.line + length bytes.now < 2 ^ 32 }
         requires column { self.column + length bytes.now < 2 ^ 32 }
         ensures { result ≡ behind self bytes.now }
