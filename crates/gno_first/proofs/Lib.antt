@@ -1,0 +1,10 @@
+pub mod Places
+pub mod Spellings
+pub mod Distinct
+pub mod Tables
+pub mod Declaring
+pub mod Each
+pub mod Fronts
+pub mod Holds
+pub mod FormLaws
+pub mod Lawfulness

@@ -1,0 +1,9 @@
+pub mod Names
+pub mod Literals
+pub mod Lawful
+pub mod Places
+pub mod Options
+pub mod Form
+pub mod Gives
+pub mod Declaring
+pub mod Scope
