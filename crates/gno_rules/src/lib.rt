@@ -6,8 +6,6 @@ mod laws;
 mod parameters;
 mod rule;
 mod statement;
-#[cfg(test)]
-mod tests;
 mod types;
 
 pub use expression::{Elements, Exprs, Found, Operand, Operands, Place, Shape, Suffix, prefixed};
