@@ -1,0 +1,33 @@
+-- The phrases that are repeated take a token.
+use Rattle.std.proofs.Common.{◌≡◌, refl, ℕ, ◌<◌, Bool, List, [], length}
+use Rattle.gno_grammar.specs.Readers.{got}
+use Rattle.gno_grammar.proofs.Plain.{easy}
+use Rattle.gno_reader.specs.Scope.{Scope, reads}
+use Rattle.gno_reader.proofs.Turns.{takes}
+use Rattle.gno_rules.specs.Parts.{P, a, past, name}
+use Rattle.gno_rules.specs.Signatures.{next_entry}
+use Rattle.gno_rules.specs.Table.{grammar}
+use Rattle.gno_rules.specs.declared.parameters.Entry.{Entry}
+use Rattle.gno_rules.specs.declared.parameters.ListState.{ListState}
+use Rattle.gno_rules.proofs.SignaturesSound.{sound_parameters}
+use Rattle.gno_rules.proofs.TypeEnds.{shown_sets, shown_parts, shown_signatures}
+use Rattle.gno_scan.specs.declared.kind.TokenKind.TheVariants as k
+use Rattle.gno_scan.specs.declared.token.Token.{Token}
+use Rattle.gno_tree.specs.declared.word.Name.{Name}
+
+-- a comma and a name
+abbrev pub further_name : List ℕ → P Name
+further_name text = past (a k.Comma) (name text)
+
+pub takes_further_name : (scope : Scope) (ts : List Token) (v : Name) (rest : List Token) → reads scope further_name ts ≡ got v rest → length rest < length ts
+unfolding shown_sets shown_parts
+takes_further_name scope = takes scope further_name (easy (grammar scope.text) (further_name scope.text) refl) refl
+
+-- a comma, and an entry behind it
+abbrev pub next : Bool → ListState → List ℕ → P Entry
+next variadics state text = past (a k.Comma) (next_entry text variadics state)
+
+pub takes_next : (variadics : Bool) (state : ListState) (scope : Scope) (ts : List Token) (v : Entry) (rest : List Token) → reads scope (next variadics state) ts ≡ got v rest → length rest < length ts
+unfolding shown_sets shown_parts shown_signatures
+takes_next variadics state scope =
+    takes scope (next variadics state) ((sound_parameters scope.text variadics).1.1.0.0.1 (record { known = []; names = []; state = state })) refl
