@@ -7,7 +7,7 @@ use Rattle.gno_script.specs.Lines.{lines_of}
 use Rattle.gno_script.specs.Script.{IsScript}
 use Rattle.gno_script.specs.Faults.{IsFirstFault}
 use Rattle.gno_items.specs.declared.memory.Package.{Package}
-use Rattle.gno_items.specs.Session.{session}
+use Rattle.gno_items.specs.Session.{IsSession, Session}
 use Rattle.gno_table.specs.FirstFormat.{IsFirst, IsNotFirst}
 use Rattle.gno_cmd.specs.declared.status.Status.{Status}
 use Rattle.gno_cmd.specs.declared.status.Status.TheVariants.{Done, SomeFailed, Usage, ReadFault, WriteFault, StoreFault, Damaged, NoMemory, ScriptFault, Limit}
@@ -40,9 +40,11 @@ HasMemory (Some table) memory = IsFirst table memory
 pub record Continues (table : Table) (items : List Item) (held held' : Option (List ℕ)) (table' : Option Table) (status : Status) : Type 0 where
   pub memory : List Package
   pub was : IsFirst table memory
-  pub prints : Gained held held' (session memory items).text
-  pub status_is : status ≡ end_status (session memory items).good
-  pub becomes : HasMemory table' (session memory items).memory
+  pub session : Session
+  pub is_session : IsSession memory items session
+  pub prints : Gained held held' session.text
+  pub status_is : status ≡ end_status session.good
+  pub becomes : HasMemory table' session.memory
 
 -- The session stopped before the commit of an item: those in front of it were performed whole. In front of all items the
 -- table is the one that it was.
@@ -50,19 +52,25 @@ pub record StopsBefore (memory : List Package) (items : List Item) (held held' :
   pub front : ℕ
   pub within : front ≤ length items
   pub unchanged : front ≡ 0 → table' ≡ table
-  pub prints : Gained held held' (session memory (take front items)).text
-  pub becomes : HasMemory table' (session memory (take front items)).memory
+  pub session : Session
+  pub is_session : IsSession memory (take front items) session
+  pub prints : Gained held held' session.text
+  pub becomes : HasMemory table' session.memory
 
 -- The session stopped in the text of an item: that one and those in front of it were committed. All text in front of it
 -- was written, and a part of its own.
 pub record StopsWithin (memory : List Package) (items : List Item) (held held' : Option (List ℕ)) (table' : Option Table) : Type 0 where
   pub front : ℕ
   pub within : front < length items
+  pub before : Session
+  pub is_before : IsSession memory (take front items) before
+  pub session : Session
+  pub is_session : IsSession memory (take (front + 1) items) session
   pub written : ℕ
-  pub whole : length (session memory (take front items)).text ≤ written
-  pub cut : written < length (session memory (take (front + 1) items)).text
-  pub prints : Gained held held' (take written (session memory (take (front + 1) items)).text)
-  pub becomes : HasMemory table' (session memory (take (front + 1) items)).memory
+  pub whole : length before.text ≤ written
+  pub cut : written < length session.text
+  pub prints : Gained held held' (take written session.text)
+  pub becomes : HasMemory table' session.memory
 
 -- what a session on a table of the first format leaves that stopped by a fault of the output or the store, or for want of memory
 abbrev pub Leaves : Status → List Package → List Item → Option (List ℕ) → Option (List ℕ) → Option Table → Option Table → Type 0

@@ -1,11 +1,12 @@
 -- One item of a session, performed on a table.
-use Rattle.std.specs.Prelude.{ℕ, ◌≡◌, ◌<◌, List, [], ◌∷◌, Option, true, length, take}
+use Rattle.std.specs.Prelude.{ℕ, ◌≡◌, ◌<◌, List, [], ◌∷◌, Option, IsSome, Bool, true, length, take}
 use Rattle.gno_port.specs.Streams.{Gained}
 use Rattle.gno_port.specs.Tables.{Table}
 use Rattle.gno_script.specs.declared.item.Item.{Item}
 use Rattle.gno_script.specs.declared.item.Item.TheVariants.{Add, Call, Reload}
 use Rattle.gno_items.specs.Well.{has_no_zero}
-use Rattle.gno_items.specs.Session.{Replied}
+use Rattle.gno_items.specs.Session.{IsSession, Replied, Replies, Session}
+use Rattle.gno_items.specs.declared.memory.Package.{Package}
 use Rattle.gno_table.specs.FirstFormat.{Stands}
 use Rattle.gno_cmd.specs.declared.performing.Ran.{Ran}
 use Rattle.gno_cmd.specs.declared.performing.ItemFault.{ItemFault}
@@ -25,6 +26,27 @@ GainedPart old new text = (n : ℕ) × (n < length text) × Gained old new (take
 pub record BreaksOff (held held' : Option (List ℕ)) (table' : Option Table) (want : Replied) : Type 0 where
   pub text : GainedPart held held' want.text
   pub stands : Stands table' want.memory
+
+-- the item was performed: what was written and answered, and what is held, is what the item replies
+pub record Performs (memory memory' : List Package) (done : ℕ) (item : Item) (held held' : Option (List ℕ)) (table : Option Table) (ran : Ran) : Type 0 where
+  pub reply : Replied
+  pub replies : Replies memory done item reply
+  pub shows : Shows held held' ran reply
+  pub packages : IsSome table → memory' ≡ reply.memory
+
+-- the item was committed, and only a part of what it says was written
+pub record Breaks (memory : List Package) (done : ℕ) (item : Item) (held held' : Option (List ℕ)) (table' : Option Table) : Type 0 where
+  pub reply : Replied
+  pub replies : Replies memory done item reply
+  pub breaks : BreaksOff held held' table' reply
+
+-- all items were performed
+pub record IsPerformed (memory : List Package) (items : List Item) (held held' : Option (List ℕ)) (table' : Option Table) (good : Bool) : Type 0 where
+  pub session : Session
+  pub is_session : IsSession memory items session
+  pub prints : Gained held held' session.text
+  pub good_is : good ≡ session.good
+  pub stands : Stands table' session.memory
 
 -- a fault that comes before the item's commit
 abbrev pub IsBeforeCommit : ItemFault → Type 0

@@ -3,10 +3,10 @@ ghost use Rattle.std.specs.Prelude.{◌≡◌, ◌≢◌, ◌<◌, ◌≤◌, �
 ghost use Rattle.gno_port.specs.Causes.{CutsShort, Rose};
 ghost use Rattle.gno_port.specs.Streams.{Gained};
 ghost use Rattle.gno_items.specs.Memory.{package_of, with_new_values, with_package};
-ghost use Rattle.gno_items.specs.Session.{is_ok, replied, shown};
+ghost use Rattle.gno_items.specs.Session.{is_ok, shown};
 ghost use Rattle.gno_items.specs.Well.{CanHave, CanKeep, CanStore, IsWellPackage};
 ghost use Rattle.gno_table.specs.FirstFormat.{Stands};
-ghost use Rattle.gno_cmd.specs.Performing.{BreaksOff, GainedPart, IsBeforeCommit, IsNamed, Shows};
+ghost use Rattle.gno_cmd.specs.Performing.{Breaks, BreaksOff, GainedPart, IsBeforeCommit, IsNamed, Performs, Shows};
 
 use gno_base::{List, Whole};
 use gno_items::{Added, Called, End, NoMemory, Package, Packages, add, call, item_text};
@@ -48,15 +48,14 @@ pub(crate) fn perform<K: Keeper, O: Sink>(
     requires count { done + 1 < 2 ^ 64 }
     requires named { IsNamed item.now }
 
-    ensures shows { IfOk result (λ ran. Shows (O.holds out.old) (O.holds out.new) ran (replied packages.old done item.now)) }
-    ensures packages { OnOk result (IsSome (K.tables keeper.old name.now) → packages.new ≡ (replied packages.old done item.now).memory) }
+    ensures performs { IfOk result (Performs packages.old packages.new done item.now (O.holds out.old) (O.holds out.new) (K.tables keeper.old name.now)) }
     ensures stands { OnOk result (Stands (K.tables keeper.new name.now) packages.new) }
     ensures open { OnOk result ((K.is_open keeper.new ≡ true) × (K.open_name keeper.new ≡ name.now)) }
 
     ensures told { IsSome (K.tables keeper.old name.now) → IsSome (K.tables keeper.new name.now) }
     ensures others { (other : List ℕ) → other ≢ name.now → K.tables keeper.new other ≡ K.tables keeper.old other }
 
-    ensures broken { IsErrOf result ItemFault.Write → BreaksOff (O.holds out.old) (O.holds out.new) (K.tables keeper.new name.now) (replied packages.old done item.now) }
+    ensures broken { IsErrOf result ItemFault.Write → Breaks packages.old done item.now (O.holds out.old) (O.holds out.new) (K.tables keeper.new name.now) }
     ensures undamaged { IsErrOf result ItemFault.Damaged → IsSome (K.tables keeper.old name.now) → ⊥ }
     ensures unwritten { IfErr result (λ fault. IsBeforeCommit fault → O.holds out.new ≡ O.holds out.old) }
     ensures unstored { IfErr result (λ fault. IsBeforeCommit fault → K.tables keeper.new ≡ K.tables keeper.old) }

@@ -1,11 +1,9 @@
 // Running the items of a script, one after another.
 ghost use Rattle.std.specs.Prelude.{◌≡◌, ◌≢◌, ◌<◌, ◌≤◌, ◌^◌, ◌&&◌, true, ℕ, List, IfOk, IfErr, IsSome, OnOk, IsErrOf, length};
 ghost use Rattle.gno_port.specs.Causes.{CutsShort, Rose};
-ghost use Rattle.gno_port.specs.Streams.{Gained};
-ghost use Rattle.gno_items.specs.Session.{session};
 ghost use Rattle.gno_table.specs.FirstFormat.{Stands};
 ghost use Rattle.gno_cmd.specs.Headline.{StopsBefore, StopsWithin};
-ghost use Rattle.gno_cmd.specs.Performing.{AreNamed, IsBeforeCommit};
+ghost use Rattle.gno_cmd.specs.Performing.{AreNamed, IsBeforeCommit, IsPerformed};
 
 use crate::performing::{ItemFault, perform};
 use gno_items::Packages;
@@ -28,9 +26,7 @@ pub(crate) fn run_items<K: Keeper, O: Sink>(
     requires count { length items.now < 2 ^ 63 }
     requires named { AreNamed items.now }
 
-    ensures text { OnOk result (IsSome (K.tables keeper.old name.now) → Gained (O.holds out.old) (O.holds out.new) (session packages.old items.now).text) }
-    ensures good { IfOk result (λ good. IsSome (K.tables keeper.old name.now) → good ≡ (session packages.old items.now).good) }
-    ensures stands { OnOk result (IsSome (K.tables keeper.old name.now) → Stands (K.tables keeper.new name.now) (session packages.old items.now).memory) }
+    ensures over { IfOk result (λ good. IsSome (K.tables keeper.old name.now) → IsPerformed packages.old items.now (O.holds out.old) (O.holds out.new) (K.tables keeper.new name.now) good) }
     ensures before { IfErr result (λ fault. IsBeforeCommit fault → IsSome (K.tables keeper.old name.now) → StopsBefore packages.old items.now (O.holds out.old) (O.holds out.new) (K.tables keeper.old name.now) (K.tables keeper.new name.now)) }
     ensures within { IsErrOf result ItemFault.Write → IsSome (K.tables keeper.old name.now) → StopsWithin packages.old items.now (O.holds out.old) (O.holds out.new) (K.tables keeper.new name.now) }
     ensures undamaged { IsErrOf result ItemFault.Damaged → IsSome (K.tables keeper.old name.now) → ⊥ }

@@ -151,6 +151,11 @@ fn items_behind_the_counter(rt: HostRuntime) -> Result<(), Fail> {
             "call 1000 alice gno.land/r/demo/none Inc\nend\n",
             "item 2 call\nrefused 104 package unknown\ncycles 0\n",
         ),
+        // faults of a source text
+        (
+            "add 1000 alice gno.land/r/demo/f\nfile f.gno\n|package f\n|var x = 1.5\nend\n",
+            "item 2 add\nrefused 6 f.gno:2:9 floating-point or imaginary literal\ncycles 0\n",
+        ),
         // what is not built yet
         (
             "add 1000 alice gno.land/r/demo/z\nfile z.gno\n|package z\n|var s string\nend\n",

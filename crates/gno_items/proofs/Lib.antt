@@ -1,3 +1,4 @@
+pub mod OneSession
 pub mod Charges
 pub mod Index
 pub mod ValueSteps

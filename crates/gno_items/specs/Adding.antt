@@ -1,18 +1,20 @@
 -- The addition of a package. The refusals stand in their order: the first that applies is the answer.
-use Rattle.std.specs.Prelude.{ℕ, zero, suc, ◌-◌, List, Option, Some, None, Bool, true, false, not, ◌||◌, if◌then◌else◌, nat_lt, is_some, length, replicate, codes}
+use Rattle.std.specs.Prelude.{◌≡◌, ℕ, zero, suc, ◌-◌, List, Option, Some, None, Bool, true, false, not, ◌||◌, ◌&&◌, if◌then◌else◌, nat_lt, is_some, length, replicate, codes}
 use Rattle.std.specs.List.{ends_with}
 use Rattle.std.specs.Prelude.{nat_eq}
 use Rattle.gno_base.specs.declared.names.NamedText.{NamedText}
 use Rattle.gno_base.specs.declared.path.PathKind.{PathKind}
 use Rattle.gno_base.specs.declared.path.PathKind.TheVariants.{Realm, Pure, Run, Bundled}
 use Rattle.gno_base.specs.Paths.{kind_of}
-use Rattle.gno_syntax.specs.Reader.{first_of}
 use Rattle.gno_syntax.specs.declared.tree.FirstFile.{FirstFile}
+use Rattle.gno_reading.specs.Readings.{IsReading}
+use Rattle.gno_reading.specs.declared.reading.Reading.{Reading}
+use Rattle.gno_reading.specs.declared.reading.Reading.TheVariants.{Faulty, NotFirst, First}
 use Rattle.gno_machine.specs.Meaning.{int_of}
 use Rattle.gno_items.specs.declared.memory.Package.{Package}
 use Rattle.gno_items.specs.declared.adding.Added.{Added}
 use Rattle.gno_items.specs.Memory.{package_of}
-use Rattle.gno_items.specs.Replies.{ended, refusal, spent}
+use Rattle.gno_items.specs.Replies.{ended, fault_at, refusal, spent}
 
 abbrev pub is_realm : Option PathKind → Bool
 is_realm (Some Realm) = true
@@ -57,14 +59,26 @@ added_tree budget path file tree =
     if charged.spent then record { reply = spent (budget - charged.left); held = None }
     else record { reply = ended (budget - charged.left); held = Some (fresh path file tree) }
 
-abbrev pub added_file : ℕ → List ℕ → NamedText → Option FirstFile → Added
-added_file budget path file None = refused_add 199
-added_file budget path file (Some tree) = added_tree budget path file tree
+-- only a realm in a file that is no test is built yet
+abbrev pub is_built : List ℕ → NamedText → Bool
+is_built path file = is_realm (kind_of path) && not (is_test_name file.name)
 
--- 101: not the path of a realm or a pure package. 102: the path is taken. 199: what is not built yet.
-abbrev pub added : List Package → ℕ → List ℕ → NamedText → Added
-added memory budget path file =
-    if not (is_realm_or_pure (kind_of path)) then refused_add 101
-    else (if is_some (package_of memory path) then refused_add 102
-    else (if not (is_realm (kind_of path)) || is_test_name file.name then refused_add 199
-    else added_file budget path file (first_of file.text)))
+-- what the file's text is read as decides. 1 to 7: the text's first fault. 199: what is not built yet.
+abbrev pub added_reading : ℕ → List ℕ → NamedText → Reading → Added
+added_reading budget path file (Faulty code pos) = record { reply = fault_at code file.name pos; held = None }
+added_reading budget path file NotFirst = refused_add 199
+added_reading budget path file (First tree) = if is_built path file then added_tree budget path file tree else refused_add 199
+
+-- 101: not the path of a realm or a pure package. 102: the path is taken.
+abbrev pub path_refusal : List Package → List ℕ → Option ℕ
+path_refusal memory path =
+    if not (is_realm_or_pure (kind_of path)) then Some 101
+    else (if is_some (package_of memory path) then Some 102 else None)
+
+-- the path is refused, or what the text is read as decides
+abbrev pub IsAddedBehind : Option ℕ → ℕ → List ℕ → NamedText → Added → Type 0
+IsAddedBehind (Some code) budget path file end = end ≡ refused_add code
+IsAddedBehind None budget path file end = (reading : Reading) × IsReading file.text reading × (end ≡ added_reading budget path file reading)
+
+abbrev pub IsAdded : List Package → ℕ → List ℕ → NamedText → Added → Type 0
+IsAdded memory budget path file end = IsAddedBehind (path_refusal memory path) budget path file end

@@ -7,6 +7,8 @@ use Rattle.gno_script.specs.declared.item.Item.TheVariants.{Add, Call, Reload}
 use Rattle.gno_items.specs.declared.reply.ItemReply.{ItemReply}
 use Rattle.gno_items.specs.declared.reply.ResultText.{ResultText}
 use Rattle.gno_items.specs.declared.reply.End.{End}
+use Rattle.gno_items.specs.declared.reply.FilePlace.{FilePlace}
+use Rattle.gno_items.specs.declared.reply.Refusal.{Refusal}
 use Rattle.gno_items.specs.declared.reply.End.TheVariants.{Ok, Refused, Spent}
 
 -- the word of an item that is numbered
@@ -17,10 +19,25 @@ word_of Reload = None
 
 -- what a refusal's code says
 abbrev pub message : ℕ → List ℕ
-message code = if nat_eq code 101 then codes "bad path"
+message code = if nat_eq code 1 then codes "not UTF-8"
+    else (if nat_eq code 2 then codes "stray character"
+    else (if nat_eq code 3 then codes "open literal or comment"
+    else (if nat_eq code 4 then codes "bad escape"
+    else (if nat_eq code 5 then codes "number too wide"
+    else (if nat_eq code 6 then codes "floating-point or imaginary literal"
+    else (if nat_eq code 7 then codes "source too long"
+    else (if nat_eq code 101 then codes "bad path"
     else (if nat_eq code 102 then codes "path taken"
     else (if nat_eq code 104 then codes "package unknown"
-    else (if nat_eq code 105 then codes "function unknown or not of this use" else codes "not built yet")))
+    else (if nat_eq code 105 then codes "function unknown or not of this use" else codes "not built yet"))))))))))
+
+-- FILE:LINE:COLUMN and a space
+abbrev pub place_text : Option FilePlace → List ℕ
+place_text None = []
+place_text (Some place) = place.file ++ (codes ":" ++ (decimal place.pos.line ++ (codes ":" ++ (decimal place.pos.column ++ codes " "))))
+
+abbrev pub refusal_text : Refusal → List ℕ
+refusal_text refusal = codes "refused " ++ (decimal refusal.code ++ (codes " " ++ (place_text refusal.place ++ message refusal.code)))
 
 -- a result, in parentheses behind a space
 abbrev pub result_text : ResultText → List ℕ
@@ -28,7 +45,7 @@ result_text result = codes " (" ++ (result.value ++ (codes " " ++ (result.of ++ 
 
 abbrev pub outcome_line : End → List ℕ
 outcome_line (Ok results) = codes "ok" ++ flat_map result_text results
-outcome_line (Refused refusal) = codes "refused " ++ (decimal refusal.code ++ (codes " " ++ message refusal.code))
+outcome_line (Refused refusal) = refusal_text refusal
 outcome_line Spent = codes "spent"
 
 -- the bytes that were printed, behind their number

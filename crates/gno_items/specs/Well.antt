@@ -4,8 +4,9 @@ use Rattle.std.specs.List.{list_all}
 use Rattle.gno_base.specs.Number.{Number}
 use Rattle.gno_base.specs.Paths.{kind_of}
 use Rattle.gno_base.specs.declared.path.PathKind.TheVariants.{Realm}
-use Rattle.gno_syntax.specs.Reader.{first_of}
 use Rattle.gno_syntax.specs.Lawful.{IsLawful}
+use Rattle.gno_reading.specs.Readings.{IsReading}
+use Rattle.gno_reading.specs.declared.reading.Reading.TheVariants.{First}
 use Rattle.gno_machine.specs.Ints.{AreInts}
 use Rattle.gno_items.specs.declared.memory.Package.{Package}
 use Rattle.gno_items.specs.declared.adding.Added.{Added}
@@ -20,7 +21,7 @@ has_no_zero bytes = list_all (λ b. nat_lt 0 b) bytes
 pub record IsWellPackage (p : Package) : Type 0 where
   pub realm : kind_of p.path ≡ Some Realm
   pub named : has_no_zero p.source.name ≡ true
-  pub reads : first_of p.source.text ≡ Some p.file
+  pub reads : IsReading p.source.text (First p.file)
   pub lawful : IsLawful p.file
   pub count : length p.values ≡ length p.file.variables
   pub ints : AreInts p.values

@@ -1,18 +1,21 @@
 // The addition of a package.
-ghost use Rattle.std.specs.Prelude.{◌≡◌, length, IfOk, IfSome, OnOk, OnErr, Some, true, false, replicate};
+ghost use Rattle.std.specs.Prelude.{◌≡◌, None, length, IfOk, IfSome, OnOk, OnErr, Some, true, false, replicate};
 ghost use Rattle.gno_base.specs.Paths.{kind_of};
-ghost use Rattle.gno_syntax.specs.Reader.{first_of};
 ghost use Rattle.gno_syntax.specs.Lawful.{IsLawful};
+ghost use Rattle.gno_reading.specs.Readings.{IsLawfulReading, IsReading};
+ghost use Rattle.gno_reading.specs.declared.reading.Reading.TheVariants.{First};
 ghost use Rattle.gno_machine.specs.Ints.{AreInts};
 ghost use Rattle.gno_machine.specs.Meaning.{int_of};
-ghost use Rattle.gno_items.specs.Adding.{added, added_tree, charge_variables, fresh, is_realm, is_realm_or_pure, is_test_name, refused_add};
+ghost use Rattle.gno_items.specs.Adding.{IsAdded, added_reading, added_tree, charge_variables, fresh, is_realm, is_built, is_realm_or_pure, is_test_name, path_refusal, refused_add};
 ghost use Rattle.gno_base.specs.declared.path.PathKind.TheVariants.{Realm};
+ghost use Rattle.gno_items.specs.Memory.{package_of};
 ghost use Rattle.gno_items.specs.Well.{CanKeep, IsWellPackage, has_no_zero};
 
-use crate::reply::{ended_reply, refused_reply, spent_reply};
+use crate::reply::{ended_reply, fault_reply, refused_reply, spent_reply};
 use crate::{ItemReply, NoMemory, Package, Packages};
 use gno_base::{Bytes, Cycles, List, NamedText, Path, PathFault, PathKind, Spent, Whole};
-use gno_syntax::{FirstFault, FirstFile, first_form};
+use gno_reading::{Reading, read_text};
+use gno_syntax::FirstFile;
 use std::alloc::{AllocError, Global};
 
 /// What an addition answers, and the package that is to be held where it ended in results.
@@ -31,24 +34,69 @@ pub fn add(
     file: &NamedText,
 ) -> Result<Added, NoMemory>
     requires { has_no_zero file.now.name ≡ true }
-    ensures added { IfOk result (λ end. end ≡ added packages.now budget path.now file.now) }
+    ensures added { IfOk result (IsAdded packages.now budget path.now file.now) }
     ensures can_keep { IfOk result (λ end. CanKeep packages.now end) }
 {
-    let kind = kind_at(alloc, path)?;
-    if !is_realm_or_pure(kind) {
-        return refused(alloc, 101);
+    if let Some(code) = path_refusal(alloc, packages, path)? {
+        return refused(alloc, code);
+    }
+    match read_text(alloc, file.text.as_slice()) {
+        Ok(reading) => add_reading(alloc, budget, path, file, reading),
+        Err(_) => Err(NoMemory),
+    }
+}
+
+// Why no package can be added at a path.
+fn path_refusal(alloc: Global, packages: &Packages, path: &[u8]) -> Result<Option<u8>, NoMemory>
+    ensures refusal { IfOk result (λ code. code ≡ path_refusal packages.now path.now) }
+    ensures free { IfOk result (λ code. code ≡ None → package_of packages.now path.now ≡ None) }
+{
+    if !is_realm_or_pure(kind_at(alloc, path)?) {
+        return Ok(Some(101));
     }
     if packages.find(path).is_some() {
-        return refused(alloc, 102);
+        return Ok(Some(102));
     }
-    if !is_realm(kind) || is_test_name(file.name.as_slice()) {
-        return refused(alloc, 199);
+    Ok(None)
+}
+
+// The addition of a file, by what its text is read as.
+fn add_reading(
+    alloc: Global,
+    budget: u64,
+    path: &[u8],
+    file: &NamedText,
+    reading: Reading,
+) -> Result<Added, NoMemory>
+    requires named { has_no_zero file.now.name ≡ true }
+    requires reads { IsReading file.now.text reading }
+    requires lawful { IsLawfulReading reading }
+    ensures added { IfOk result (λ end. end ≡ added_reading budget path.now file.now reading) }
+    ensures well { IfOk result (λ end. IfSome end.held (λ p. IsWellPackage p)) }
+    ensures path { IfOk result (λ end. IfSome end.held (λ p. p.path ≡ path.now)) }
+{
+    match reading {
+        Reading::Faulty { code, pos } => {
+            let Ok(reply) = fault_reply(alloc, code, file.name.as_slice(), pos) else {
+                return Err(NoMemory);
+            };
+            Ok(Added { reply, held: None })
+        }
+        Reading::NotFirst => refused(alloc, 199),
+        Reading::First(tree) => {
+            if !is_built(alloc, path, file)? {
+                return refused(alloc, 199);
+            }
+            add_file(alloc, budget, path, file, tree)
+        }
     }
-    match first_form(alloc, file.text.as_slice()) {
-        Ok(tree) => add_file(alloc, budget, path, file, tree),
-        Err(FirstFault::NotFirst) => refused(alloc, 199),
-        Err(FirstFault::NoMemory) => Err(NoMemory),
-    }
+}
+
+// Whether such a package is built yet.
+fn is_built(alloc: Global, path: &[u8], file: &NamedText) -> Result<bool, NoMemory>
+    ensures { IfOk result (λ is. is ≡ is_built path.now file.now) }
+{
+    Ok(is_realm(kind_at(alloc, path)?) && !is_test_name(file.name.as_slice()))
 }
 
 fn kind_at(alloc: Global, path: &[u8]) -> Result<Option<PathKind>, NoMemory>
@@ -99,7 +147,7 @@ fn add_file(
 ) -> Result<Added, NoMemory>
     requires realm { kind_of path.now ≡ Some Realm }
     requires named { has_no_zero file.now.name ≡ true }
-    requires reads { first_of file.now.text ≡ Some tree }
+    requires reads { IsReading file.now.text (First tree) }
     requires lawful { IsLawful tree }
     ensures added { IfOk result (λ end. end ≡ added_tree budget path.now file.now tree) }
     ensures well { IfOk result (λ end. IfSome end.held (λ p. IsWellPackage p)) }
@@ -144,7 +192,7 @@ fn new_package(
 ) -> Result<Package, AllocError>
     requires realm { kind_of path.now ≡ Some Realm }
     requires named { has_no_zero file.now.name ≡ true }
-    requires reads { first_of file.now.text ≡ Some tree }
+    requires reads { IsReading file.now.text (First tree) }
     requires lawful { IsLawful tree }
     ensures fresh { IfOk result (λ made. made ≡ fresh path.now file.now tree) }
     ensures well { IfOk result (λ made. IsWellPackage made) }

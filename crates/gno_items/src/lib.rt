@@ -3,14 +3,16 @@
 
 mod adding;
 mod calling;
+mod laws;
 mod memory;
 mod reply;
 mod text;
 
 pub use adding::{Added, add};
 pub use calling::{Called, call};
+pub use laws::one_session;
 pub use memory::{Package, Packages};
-pub use reply::{End, ItemReply, Refusal, ResultText};
+pub use reply::{End, FilePlace, ItemReply, Refusal, ResultText};
 pub use text::item_text;
 
 /// There is no memory.

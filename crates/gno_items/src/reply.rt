@@ -1,9 +1,11 @@
 // What an item answers.
 ghost use Rattle.std.specs.Prelude.{◌≡◌};
-ghost use Rattle.gno_items.specs.Replies.{ended, refusal, spent};
+ghost use Rattle.std.specs.Prelude.{IfOk};
+ghost use Rattle.gno_items.specs.Replies.{ended, fault_at, refusal, spent};
 
 use gno_base::{Bytes, List};
-use std::alloc::Global;
+use gno_scan::Pos;
+use std::alloc::{AllocError, Global};
 
 /// A result's printed value and its type's text.
 #[derive(Debug, Drop)]
@@ -12,10 +14,18 @@ pub struct ResultText {
     pub of: Bytes,
 }
 
-/// Why an item was refused before its run.
-#[derive(Clone, Copy, Debug, PartialEq, Eq)]
+/// Where a source file goes wrong: the file's name, and the place in it.
+#[derive(Debug, Drop)]
+pub struct FilePlace {
+    pub file: Bytes,
+    pub pos: Pos,
+}
+
+/// Why an item was refused before its run: the code, and the place where a source file is at fault.
+#[derive(Debug, Drop)]
 pub struct Refusal {
     pub code: u8,
+    pub place: Option<FilePlace>,
 }
 
 /// How an item ended.
@@ -40,10 +50,33 @@ pub(crate) fn refused_reply(alloc: Global, code: u8) -> ItemReply
     ensures { result ≡ refusal code }
 {
     ItemReply {
-        end: End::Refused(Refusal { code }),
+        end: End::Refused(Refusal { code, place: None }),
         printed: Bytes::new(alloc),
         used: 0,
     }
+}
+
+// The reply to an addition whose file goes wrong at a place.
+pub(crate) fn fault_reply(
+    alloc: Global,
+    code: u8,
+    file: &[u8],
+    pos: Pos,
+) -> Result<ItemReply, AllocError>
+    ensures { IfOk result (λ reply. reply ≡ fault_at code file.now pos) }
+{
+    let place = FilePlace {
+        file: Bytes::from_slice(alloc, file)?,
+        pos,
+    };
+    Ok(ItemReply {
+        end: End::Refused(Refusal {
+            code,
+            place: Some(place),
+        }),
+        printed: Bytes::new(alloc),
+        used: 0,
+    })
 }
 
 pub(crate) fn spent_reply(alloc: Global, used: u64) -> ItemReply

@@ -1,5 +1,4 @@
 ghost use Rattle.std.specs.Prelude.{◌≡◌, IfOk};
-ghost use Rattle.gno_items.specs.Adding.{added};
 ghost use Rattle.gno_items.specs.Well.{CanKeep, IsWell, has_no_zero};
 
 use crate::{Added, Called, End, ItemReply, Packages, add, call, item_text};
@@ -54,9 +53,9 @@ fn with_counter(alloc: Global) -> Result<Packages, Fail>
 }
 
 fn code_of(reply: &ItemReply) -> Option<u8> {
-    match reply.end {
+    match &reply.end {
         End::Refused(refusal) => Some(refusal.code),
-        _ => None,
+        End::Ok(_) | End::Spent => None,
     }
 }
 
@@ -126,11 +125,12 @@ fn an_addition_charges_for_each_variable(rt: HostRuntime) -> Result<(), Fail> {
 fn additions_are_refused(rt: HostRuntime) -> Result<(), Fail> {
     let packages = with_counter(rt.alloc())?;
     let other = b"package z\nvar s string\n";
-    let cases: [(&[u8], &[u8], &[u8], u8); 8] = [
+    let cases: [(&[u8], &[u8], &[u8], u8); 9] = [
         (b"gno.land/x/y", b"a.gno", COUNTER, 101),
         (b"gno.land/e/alice/run", b"a.gno", COUNTER, 101),
         (b"chain", b"a.gno", COUNTER, 101),
         (b"gno.land/r/demo/counter", b"a_test.gno", other, 102),
+        (b"gno.land/p/demo/a", b"a.gno", b"package f\n\xff\n", 1),
         (b"gno.land/p/demo/a", b"a.gno", COUNTER, 199),
         (b"gno.land/r/z", b"a_test.gno", COUNTER, 199),
         (b"gno.land/r/z", b"a_filetest.gno", COUNTER, 199),

@@ -3,9 +3,9 @@ ghost use Rattle.std.specs.Prelude.{◌≡◌, ◌++◌, IfOk, OnOk, codes};
 ghost use Rattle.std.specs.List.{flat_map};
 ghost use Rattle.std.specs.Option.{option_map};
 ghost use Rattle.std.specs.Fmt.{decimal};
-ghost use Rattle.gno_items.specs.Text.{cycles_line, heading, item_text, message, numbered_text, outcome_line, printed_text, result_text, word_of};
+ghost use Rattle.gno_items.specs.Text.{cycles_line, heading, item_text, message, numbered_text, outcome_line, place_text, printed_text, refusal_text, result_text, word_of};
 
-use crate::{End, ItemReply, NoMemory, ResultText};
+use crate::{End, FilePlace, ItemReply, NoMemory, Refusal, ResultText};
 use gno_base::Bytes;
 use gno_script::Item;
 use std::alloc::{AllocError, Global};
@@ -106,7 +106,7 @@ fn push_outcome(alloc: Global, text: &mut Bytes, end: &End) -> Result<(), AllocE
 {
     match end {
         End::Ok(results) => push_results(text, results.as_slice()),
-        End::Refused(refusal) => push_refusal(alloc, text, refusal.code),
+        End::Refused(refusal) => push_refusal(alloc, text, refusal),
         End::Spent => push_text(text, "spent"),
     }
 }
@@ -131,19 +131,41 @@ fn push_result(text: &mut Bytes, one: &ResultText) -> Result<(), AllocError>
     push_text(text, ")")
 }
 
-fn push_refusal(alloc: Global, text: &mut Bytes, code: u8) -> Result<(), AllocError>
-    ensures { OnOk result (text.new ≡ text.old ++ (codes "refused " ++ (decimal code ++ (codes " " ++ message code)))) }
+fn push_refusal(alloc: Global, text: &mut Bytes, refusal: &Refusal) -> Result<(), AllocError>
+    ensures { OnOk result (text.new ≡ text.old ++ refusal_text refusal.now) }
 {
     push_text(text, "refused ")?;
-    push_number(alloc, text, u64::from(code))?;
+    push_number(alloc, text, u64::from(refusal.code))?;
     push_text(text, " ")?;
-    push_text(text, message(code))
+    push_place(alloc, text, &refusal.place)?;
+    push_text(text, message(refusal.code))
+}
+
+fn push_place(alloc: Global, text: &mut Bytes, place: &Option<FilePlace>) -> Result<(), AllocError>
+    ensures { OnOk result (text.new ≡ text.old ++ place_text place.now) }
+{
+    let Some(place) = place else {
+        return Ok(());
+    };
+    text.extend_from_slice(place.file.as_slice())?;
+    push_text(text, ":")?;
+    push_number(alloc, text, u64::from(place.pos.line))?;
+    push_text(text, ":")?;
+    push_number(alloc, text, u64::from(place.pos.column))?;
+    push_text(text, " ")
 }
 
 fn message(code: u8) -> &'static str
     ensures { result.now ≡ message code }
 {
     match code {
+        1 => "not UTF-8",
+        2 => "stray character",
+        3 => "open literal or comment",
+        4 => "bad escape",
+        5 => "number too wide",
+        6 => "floating-point or imaginary literal",
+        7 => "source too long",
         101 => "bad path",
         102 => "path taken",
         104 => "package unknown",

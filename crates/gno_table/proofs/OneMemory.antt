@@ -12,7 +12,9 @@ use Rattle.gno_machine.specs.Ints.{AreInts, IsInt}
 use Rattle.gno_syntax.specs.declared.tree.FirstFile.{FirstFile}
 use Rattle.gno_syntax.specs.Names.{is_among}
 use Rattle.gno_syntax.specs.Lawful.{are_distinct}
-use Rattle.gno_syntax.specs.Reader.{first_of}
+use Rattle.gno_reading.specs.Readings.{IsReading}
+use Rattle.gno_reading.specs.declared.reading.Reading.TheVariants.{First}
+use Rattle.gno_reading.proofs.OneReading.{one_first}
 use Rattle.gno_items.specs.declared.memory.Package.{Package}
 use Rattle.gno_items.specs.Memory.{package_of}
 use Rattle.gno_items.specs.Well.{has_no_zero, IsWell, IsWellPackage}
@@ -132,7 +134,7 @@ pub package_one : (p q : Package) → IsWellPackage p → IsWellPackage q → p.
     ((name : List ℕ) → value_named p.file.variables p.values name None ≡ value_named q.file.variables q.values name None) → p ≡ q
 package_one p q wp wq paths sources values =
     let named = named_one p.source.name q.source.name p.source.text q.source.text wp.named wq.named sources in
-    let files : p.file ≡ q.file = some_one _ _ (sym wp.reads ∙ ap first_of named.1 ∙ wq.reads) in
+    let files : p.file ≡ q.file = one_first p.source.text p.file q.file wp.reads (subst (λ (text : List ℕ). IsReading text (First q.file)) (sym named.1) wq.reads) in
     let names : p.file.variables ≡ q.file.variables = ap (λ (f : FirstFile). f.variables) files in
     let count : length p.values ≡ length q.file.variables = wp.count ∙ ap length names in
     let told : (name : List ℕ) → value_named q.file.variables p.values name None ≡ value_named q.file.variables q.values name None =

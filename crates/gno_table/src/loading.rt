@@ -4,6 +4,10 @@ ghost use Rattle.std.specs.Option.{option_copied};
 ghost use Rattle.gno_base.specs.Number.{Number};
 ghost use Rattle.gno_base.specs.Paths.{kind_of};
 ghost use Rattle.gno_base.specs.declared.path.PathKind.TheVariants.{Realm};
+ghost use Rattle.gno_syntax.specs.Lawful.{IsLawful};
+ghost use Rattle.gno_syntax.specs.declared.tree.FirstFile.{FirstFile as FirstFileOf};
+ghost use Rattle.gno_reading.specs.Readings.{IsReading};
+ghost use Rattle.gno_reading.specs.declared.reading.Reading.TheVariants.{First};
 ghost use Rattle.gno_machine.specs.Ints.{AreInts};
 ghost use Rattle.gno_port.specs.Causes.{Rose};
 ghost use Rattle.gno_port.specs.Tables.{Table, IsRising, latest};
@@ -20,7 +24,8 @@ use crate::sources::{Source, sources_of, word_at};
 use gno_base::{Bytes, List, Path, PathFault, PathKind, Whole};
 use gno_items::{Package, Packages};
 use gno_port::{Batch, Change, Changes, KeepFault, Keeper};
-use gno_syntax::{FirstFault, FirstFile, first_form};
+use gno_reading::{Reading, read_text};
+use gno_syntax::FirstFile;
 use std::alloc::{AllocError, Global};
 
 // A table of so many packages is not loaded: the answer is want of memory.
@@ -171,10 +176,8 @@ fn package_of(alloc: Global, rows: &[Change], source: Source) -> Result<Option<P
     if !is_realm(alloc, path.as_slice())? || !has_no_zero(file.name.as_slice()) {
         return Ok(None);
     }
-    let tree = match first_form(alloc, file.text.as_slice()) {
-        Ok(tree) => tree,
-        Err(FirstFault::NotFirst) => return Ok(None),
-        Err(FirstFault::NoMemory) => return Err(NoMemory),
+    let Some(tree) = file_of(alloc, file.text.as_slice())? else {
+        return Ok(None);
     };
     let Ok(found) = values_of(alloc, rows, path.as_slice(), tree.variables.as_slice()) else {
         return Err(NoMemory);
@@ -188,6 +191,20 @@ fn package_of(alloc: Global, rows: &[Change], source: Source) -> Result<Option<P
         file: tree,
         values,
     }))
+}
+
+// The file that a text is in the first form.
+#[tactic(auto, using(gno_reading::proofs::OneReading::one_reading))]
+fn file_of(alloc: Global, text: &[u8]) -> Result<Option<FirstFile>, NoMemory>
+    ensures read { IfOk result (λ found. IfSome found (λ file. IsReading text.now (First file))) }
+    ensures lawful { IfOk result (λ found. IfSome found (λ file. IsLawful file)) }
+    ensures finds { IfOk result (λ found. (file : FirstFileOf) → IsReading text.now (First file) → found ≡ Some file) }
+{
+    match read_text(alloc, text) {
+        Ok(Reading::First(file)) => Ok(Some(file)),
+        Ok(Reading::NotFirst | Reading::Faulty { .. }) => Ok(None),
+        Err(_) => Err(NoMemory),
+    }
 }
 
 fn is_realm(alloc: Global, path: &[u8]) -> Result<bool, NoMemory>

@@ -1,17 +1,13 @@
 use Rattle.std.proofs.Common.{◌≡◌, ◌≢◌, ◌≤◌, ℕ, List, drop, take}
 use Rattle.std.specs.Prelude.{IsSome, true}
-use Rattle.gno_port.specs.Streams.{Gained}
-use Rattle.gno_items.specs.Session.{session}
 use Rattle.gno_table.specs.FirstFormat.{Stands}
 use Rattle.gno_cmd.specs.Performing.{AreNamed}
-use Rattle.gno_cmd.proofs.Running.{IsRunning}
 use Rattle.gno_cmd.proofs.Stopped.{HasCome}
 use Rattle.gno_cmd.proofs.session.run_items.Given as goal
 
 abbrev pub invariant-loop-item : goal.invariant-loop-item
 invariant-loop-item g l = record {
-  run : IsSome (g.K.Keeper.tables l.fn.keeper l.name) → (said : List ℕ) × Gained (g.O.Sink.holds l.fn.out) (g.O.Sink.holds l.out) said × IsRunning said l.good l.packages l.done (drop l.item-index l.items) (session l.fn.packages l.items);
-  came : IsSome (g.K.Keeper.tables l.fn.keeper l.name) → HasCome l.fn.packages (take l.item-index l.items) (g.O.Sink.holds l.fn.out) (g.O.Sink.holds l.out) l.packages l.done;
+  came : IsSome (g.K.Keeper.tables l.fn.keeper l.name) → HasCome l.fn.packages (take l.item-index l.items) (g.O.Sink.holds l.fn.out) (g.O.Sink.holds l.out) l.packages l.done l.good;
   count : l.done ≤ l.item-index;
   is_open : g.K.Keeper.is_open l.keeper ≡ true;
   name : g.K.Keeper.open_name l.keeper ≡ l.name;
