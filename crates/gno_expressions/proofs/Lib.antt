@@ -1,0 +1,5 @@
+pub mod Turns
+pub mod Loops
+pub mod LevelSets
+pub mod Lists
+pub mod Built

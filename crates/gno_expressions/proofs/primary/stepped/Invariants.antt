@@ -1,0 +1,9 @@
+use Rattle.std.proofs.Common.{length}
+use Rattle.gno_expressions.proofs.Loops.{Steps}
+use Rattle.gno_expressions.proofs.primary.stepped.Given as goal
+
+abbrev pub invariant-loop-place : goal.invariant-loop-place
+invariant-loop-place g l = Steps (g.R.Reader.scope l.fn.reader) l.fn.place l.fn.tokens l.operand l.tokens
+
+abbrev pub decreases-loop-place : goal.decreases-loop-place
+decreases-loop-place g l = length l.tokens
