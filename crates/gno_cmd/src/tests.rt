@@ -156,6 +156,14 @@ fn items_behind_the_counter(rt: HostRuntime) -> Result<(), Fail> {
             "add 1000 alice gno.land/r/demo/f\nfile f.gno\n|package f\n|var x = 1.5\nend\n",
             "item 2 add\nrefused 6 f.gno:2:9 floating-point or imaginary literal\ncycles 0\n",
         ),
+        (
+            "add 1000 alice gno.land/r/demo/f\nfile f.gno\n|package p\n|func f() { go g() }\nend\n",
+            "item 2 add\nrefused 22 f.gno:2:12 form left out: goroutine\ncycles 0\n",
+        ),
+        (
+            "add 1000 alice gno.land/p/demo/f\nfile f.gno\n|package p\n|var x = 1 + )\nend\n",
+            "item 2 add\nrefused 20 f.gno:2:13 unexpected token\ncycles 0\n",
+        ),
         // what is not built yet
         (
             "add 1000 alice gno.land/r/demo/z\nfile z.gno\n|package z\n|var s string\nend\n",

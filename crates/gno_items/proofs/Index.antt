@@ -12,10 +12,10 @@ use Rattle.std.proofs.lemmas.Slice.Eq.{bytes_eq-Decides}
 use Rattle.std.proofs.lemmas.Option.{slice_get_within, slice_get_read}
 use Rattle.std.proofs.lemmas.List.{map_push, length-map}
 use Rattle.gno_base.specs.Number.{Number}
-use Rattle.gno_syntax.specs.Places.{place}
-use Rattle.gno_syntax.proofs.Places.{absent_parts, bytes_eq_sym, place_append, place_is}
-use Rattle.gno_syntax.proofs.Tables.{has_places_push}
-use Rattle.gno_syntax.specs.Scope.{HasPlaces}
+use Rattle.gno_first.specs.Places.{place}
+use Rattle.gno_first.proofs.Places.{absent_parts, bytes_eq_sym, place_is}
+use Rattle.gno_items.proofs.Tables.{has_places_push, place_append}
+use Rattle.gno_items.specs.Index.{HasPlaces}
 use Rattle.gno_items.specs.Well.{IsWell, IsWellPackage}
 use Rattle.gno_items.specs.declared.memory.Package.{Package}
 use Rattle.gno_items.proofs.ValueSteps.{valued}

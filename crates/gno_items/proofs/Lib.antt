@@ -1,4 +1,5 @@
 pub mod OneSession
+pub mod Tables
 pub mod Charges
 pub mod Index
 pub mod ValueSteps

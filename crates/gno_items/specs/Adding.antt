@@ -6,7 +6,7 @@ use Rattle.gno_base.specs.declared.names.NamedText.{NamedText}
 use Rattle.gno_base.specs.declared.path.PathKind.{PathKind}
 use Rattle.gno_base.specs.declared.path.PathKind.TheVariants.{Realm, Pure, Run, Bundled}
 use Rattle.gno_base.specs.Paths.{kind_of}
-use Rattle.gno_syntax.specs.declared.tree.FirstFile.{FirstFile}
+use Rattle.gno_first.specs.declared.tree.FirstFile.{FirstFile}
 use Rattle.gno_reading.specs.Readings.{IsReading}
 use Rattle.gno_reading.specs.declared.reading.Reading.{Reading}
 use Rattle.gno_reading.specs.declared.reading.Reading.TheVariants.{Faulty, NotFirst, First}
@@ -63,9 +63,9 @@ added_tree budget path file tree =
 abbrev pub is_built : List ℕ → NamedText → Bool
 is_built path file = is_realm (kind_of path) && not (is_test_name file.name)
 
--- what the file's text is read as decides. 1 to 7: the text's first fault. 199: what is not built yet.
+-- what the file's text is read as decides. 1 to 7 and 20 to 22: the text's first fault. 199: what is not built yet.
 abbrev pub added_reading : ℕ → List ℕ → NamedText → Reading → Added
-added_reading budget path file (Faulty code pos) = record { reply = fault_at code file.name pos; held = None }
+added_reading budget path file (Faulty code pos form) = record { reply = fault_at code file.name pos form; held = None }
 added_reading budget path file NotFirst = refused_add 199
 added_reading budget path file (First tree) = if is_built path file then added_tree budget path file tree else refused_add 199
 

@@ -3,7 +3,7 @@ use Rattle.std.specs.Prelude.{ℕ, ◌-◌, List, [], ◌∷◌, Option, Some, N
 use Rattle.std.specs.Str.{bytes_eq}
 use Rattle.std.specs.Fmt.{signed_decimal}
 use Rattle.gno_base.specs.Number.{Number}
-use Rattle.gno_syntax.specs.declared.tree.FirstFunc.{FirstFunc}
+use Rattle.gno_first.specs.declared.tree.FirstFunc.{FirstFunc}
 use Rattle.gno_machine.specs.Meaning.{Ended, run_meaning}
 use Rattle.gno_items.specs.declared.memory.Package.{Package}
 use Rattle.gno_items.specs.declared.calling.Called.{Called}

@@ -5,3 +5,4 @@ pub mod Calling
 pub mod Well
 pub mod Text
 pub mod Session
+pub mod Index

@@ -6,6 +6,8 @@ use Rattle.gno_script.specs.declared.item.Item.{Item}
 use Rattle.gno_script.specs.declared.item.Item.TheVariants.{Add, Call, Reload}
 use Rattle.gno_items.specs.declared.reply.ItemReply.{ItemReply}
 use Rattle.gno_items.specs.declared.reply.ResultText.{ResultText}
+use Rattle.gno_grammar.specs.declared.refusal.LeftOut.{LeftOut}
+use Rattle.gno_grammar.specs.declared.refusal.LeftOut.TheVariants as form
 use Rattle.gno_items.specs.declared.reply.End.{End}
 use Rattle.gno_items.specs.declared.reply.FilePlace.{FilePlace}
 use Rattle.gno_items.specs.declared.reply.Refusal.{Refusal}
@@ -17,6 +19,21 @@ word_of (Add budget caller path file) = Some (codes "add")
 word_of (Call budget caller path function) = Some (codes "call")
 word_of Reload = None
 
+-- the name of a form that is left out
+abbrev pub form_name : LeftOut → List ℕ
+form_name form.Goroutine = codes "goroutine"
+form_name form.Channel = codes "channel"
+form_name form.Select = codes "select"
+form_name form.Goto = codes "goto"
+form_name form.Generics = codes "generics"
+form_name form.StructTag = codes "struct tag"
+form_name form.DotImport = codes "dot import"
+form_name form.TypeUnion = codes "type union"
+
+abbrev pub form_text : Option LeftOut → List ℕ
+form_text None = []
+form_text (Some form) = codes ": " ++ form_name form
+
 -- what a refusal's code says
 abbrev pub message : ℕ → List ℕ
 message code = if nat_eq code 1 then codes "not UTF-8"
@@ -26,10 +43,13 @@ message code = if nat_eq code 1 then codes "not UTF-8"
     else (if nat_eq code 5 then codes "number too wide"
     else (if nat_eq code 6 then codes "floating-point or imaginary literal"
     else (if nat_eq code 7 then codes "source too long"
+    else (if nat_eq code 20 then codes "unexpected token"
+    else (if nat_eq code 21 then codes "nested too deep"
+    else (if nat_eq code 22 then codes "form left out"
     else (if nat_eq code 101 then codes "bad path"
     else (if nat_eq code 102 then codes "path taken"
     else (if nat_eq code 104 then codes "package unknown"
-    else (if nat_eq code 105 then codes "function unknown or not of this use" else codes "not built yet"))))))))))
+    else (if nat_eq code 105 then codes "function unknown or not of this use" else codes "not built yet")))))))))))))
 
 -- FILE:LINE:COLUMN and a space
 abbrev pub place_text : Option FilePlace → List ℕ
@@ -37,7 +57,7 @@ place_text None = []
 place_text (Some place) = place.file ++ (codes ":" ++ (decimal place.pos.line ++ (codes ":" ++ (decimal place.pos.column ++ codes " "))))
 
 abbrev pub refusal_text : Refusal → List ℕ
-refusal_text refusal = codes "refused " ++ (decimal refusal.code ++ (codes " " ++ (place_text refusal.place ++ message refusal.code)))
+refusal_text refusal = codes "refused " ++ (decimal refusal.code ++ (codes " " ++ (place_text refusal.place ++ (message refusal.code ++ form_text refusal.form))))
 
 -- a result, in parentheses behind a space
 abbrev pub result_text : ResultText → List ℕ

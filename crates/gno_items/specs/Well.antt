@@ -4,7 +4,7 @@ use Rattle.std.specs.List.{list_all}
 use Rattle.gno_base.specs.Number.{Number}
 use Rattle.gno_base.specs.Paths.{kind_of}
 use Rattle.gno_base.specs.declared.path.PathKind.TheVariants.{Realm}
-use Rattle.gno_syntax.specs.Lawful.{IsLawful}
+use Rattle.gno_first.specs.Lawful.{IsLawful}
 use Rattle.gno_reading.specs.Readings.{IsReading}
 use Rattle.gno_reading.specs.declared.reading.Reading.TheVariants.{First}
 use Rattle.gno_machine.specs.Ints.{AreInts}

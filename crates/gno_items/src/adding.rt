@@ -1,7 +1,7 @@
 // The addition of a package.
 ghost use Rattle.std.specs.Prelude.{◌≡◌, None, length, IfOk, IfSome, OnOk, OnErr, Some, true, false, replicate};
 ghost use Rattle.gno_base.specs.Paths.{kind_of};
-ghost use Rattle.gno_syntax.specs.Lawful.{IsLawful};
+ghost use Rattle.gno_first.specs.Lawful.{IsLawful};
 ghost use Rattle.gno_reading.specs.Readings.{IsLawfulReading, IsReading};
 ghost use Rattle.gno_reading.specs.declared.reading.Reading.TheVariants.{First};
 ghost use Rattle.gno_machine.specs.Ints.{AreInts};
@@ -14,8 +14,8 @@ ghost use Rattle.gno_items.specs.Well.{CanKeep, IsWellPackage, has_no_zero};
 use crate::reply::{ended_reply, fault_reply, refused_reply, spent_reply};
 use crate::{ItemReply, NoMemory, Package, Packages};
 use gno_base::{Bytes, Cycles, List, NamedText, Path, PathFault, PathKind, Spent, Whole};
+use gno_first::FirstFile;
 use gno_reading::{Reading, read_text};
-use gno_syntax::FirstFile;
 use std::alloc::{AllocError, Global};
 
 /// What an addition answers, and the package that is to be held where it ended in results.
@@ -76,8 +76,8 @@ fn add_reading(
     ensures path { IfOk result (λ end. IfSome end.held (λ p. p.path ≡ path.now)) }
 {
     match reading {
-        Reading::Faulty { code, pos } => {
-            let Ok(reply) = fault_reply(alloc, code, file.name.as_slice(), pos) else {
+        Reading::Faulty { code, pos, form } => {
+            let Ok(reply) = fault_reply(alloc, code, file.name.as_slice(), pos, form) else {
                 return Err(NoMemory);
             };
             Ok(Added { reply, held: None })

@@ -1,7 +1,7 @@
 // The call of a function of a realm.
 ghost use Rattle.std.specs.Prelude.{◌≡◌, ◌<◌, length, IfOk, IfSome, Some, codes};
 ghost use Rattle.std.specs.Fmt.{signed_decimal};
-ghost use Rattle.gno_syntax.specs.Lawful.{AreFuncsIn};
+ghost use Rattle.gno_first.specs.Lawful.{AreFuncsIn};
 ghost use Rattle.gno_machine.specs.Ints.{AreInts};
 ghost use Rattle.gno_machine.specs.Meaning.{run_meaning};
 ghost use Rattle.gno_items.specs.Calling.{called, called_in, function_of, is_exported, ran, refused_call, results_of};
@@ -10,8 +10,8 @@ ghost use Rattle.gno_items.specs.Well.{CanHave, CanStore, IsWell, IsWellPackage}
 use crate::reply::refused_reply;
 use crate::{End, ItemReply, NoMemory, Package, Packages, ResultText};
 use gno_base::{Bytes, Cycles, List, Whole};
+use gno_first::{FirstFile, FirstFunc};
 use gno_machine::{FirstEnd, run_first};
-use gno_syntax::{FirstFile, FirstFunc};
 use std::alloc::{AllocError, Global};
 
 /// What a call answers, and the values of the package's variables after it where it ended in results.

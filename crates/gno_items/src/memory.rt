@@ -1,12 +1,12 @@
 // The packages that are held, in order of addition.
 ghost use Rattle.std.specs.Prelude.{◌≡◌, ◌++◌, ◌∷◌, [], ◌<◌, length, IfSome, IsSome, None, OnOk, OnErr};
 ghost use Rattle.std.specs.Option.{option_copied};
-ghost use Rattle.gno_syntax.specs.Places.{place};
+ghost use Rattle.gno_first.specs.Places.{place};
 ghost use Rattle.gno_items.specs.Memory.{package_of, paths, with_values};
 ghost use Rattle.gno_items.specs.Well.{IsWell, IsWellPackage};
 
 use gno_base::{Bytes, List, NamedText, Whole};
-use gno_syntax::FirstFile;
+use gno_first::FirstFile;
 use std::alloc::{AllocError, Global};
 use std::collections::BTreeMap;
 use std::marker::Model;
@@ -30,7 +30,7 @@ pub struct Packages {
 
 impl Model for Packages {
     ghost use Rattle.std.specs.Prelude.{List as list};
-    ghost use Rattle.gno_syntax.specs.Scope.{HasPlaces};
+    ghost use Rattle.gno_items.specs.Index.{HasPlaces};
     ghost use Rattle.gno_items.specs.declared.memory.Package.{Package};
     ghost use Rattle.gno_items.specs.Memory.{paths};
 

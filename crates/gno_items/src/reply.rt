@@ -4,6 +4,7 @@ ghost use Rattle.std.specs.Prelude.{IfOk};
 ghost use Rattle.gno_items.specs.Replies.{ended, fault_at, refusal, spent};
 
 use gno_base::{Bytes, List};
+use gno_grammar::LeftOut;
 use gno_scan::Pos;
 use std::alloc::{AllocError, Global};
 
@@ -21,11 +22,13 @@ pub struct FilePlace {
     pub pos: Pos,
 }
 
-/// Why an item was refused before its run: the code, and the place where a source file is at fault.
+/// Why an item was refused before its run: the code, the place where a source file is at fault, and the form that is left out
+/// where the code is 22.
 #[derive(Debug, Drop)]
 pub struct Refusal {
     pub code: u8,
     pub place: Option<FilePlace>,
+    pub form: Option<LeftOut>,
 }
 
 /// How an item ended.
@@ -50,7 +53,11 @@ pub(crate) fn refused_reply(alloc: Global, code: u8) -> ItemReply
     ensures { result ≡ refusal code }
 {
     ItemReply {
-        end: End::Refused(Refusal { code, place: None }),
+        end: End::Refused(Refusal {
+            code,
+            place: None,
+            form: None,
+        }),
         printed: Bytes::new(alloc),
         used: 0,
     }
@@ -62,8 +69,9 @@ pub(crate) fn fault_reply(
     code: u8,
     file: &[u8],
     pos: Pos,
+    form: Option<LeftOut>,
 ) -> Result<ItemReply, AllocError>
-    ensures { IfOk result (λ reply. reply ≡ fault_at code file.now pos) }
+    ensures { IfOk result (λ reply. reply ≡ fault_at code file.now pos form) }
 {
     let place = FilePlace {
         file: Bytes::from_slice(alloc, file)?,
@@ -73,6 +81,7 @@ pub(crate) fn fault_reply(
         end: End::Refused(Refusal {
             code,
             place: Some(place),
+            form,
         }),
         printed: Bytes::new(alloc),
         used: 0,

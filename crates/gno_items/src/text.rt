@@ -3,10 +3,11 @@ ghost use Rattle.std.specs.Prelude.{◌≡◌, ◌++◌, IfOk, OnOk, codes};
 ghost use Rattle.std.specs.List.{flat_map};
 ghost use Rattle.std.specs.Option.{option_map};
 ghost use Rattle.std.specs.Fmt.{decimal};
-ghost use Rattle.gno_items.specs.Text.{cycles_line, heading, item_text, message, numbered_text, outcome_line, place_text, printed_text, refusal_text, result_text, word_of};
+ghost use Rattle.gno_items.specs.Text.{cycles_line, form_name, form_text, heading, item_text, message, numbered_text, outcome_line, place_text, printed_text, refusal_text, result_text, word_of};
 
 use crate::{End, FilePlace, ItemReply, NoMemory, Refusal, ResultText};
 use gno_base::Bytes;
+use gno_grammar::LeftOut;
 use gno_script::Item;
 use std::alloc::{AllocError, Global};
 
@@ -138,7 +139,8 @@ fn push_refusal(alloc: Global, text: &mut Bytes, refusal: &Refusal) -> Result<()
     push_number(alloc, text, u64::from(refusal.code))?;
     push_text(text, " ")?;
     push_place(alloc, text, &refusal.place)?;
-    push_text(text, message(refusal.code))
+    push_text(text, message(refusal.code))?;
+    push_form(text, refusal.form)
 }
 
 fn push_place(alloc: Global, text: &mut Bytes, place: &Option<FilePlace>) -> Result<(), AllocError>
@@ -155,6 +157,31 @@ fn push_place(alloc: Global, text: &mut Bytes, place: &Option<FilePlace>) -> Res
     push_text(text, " ")
 }
 
+fn push_form(text: &mut Bytes, form: Option<LeftOut>) -> Result<(), AllocError>
+    ensures { OnOk result (text.new ≡ text.old ++ form_text form) }
+{
+    let Some(form) = form else {
+        return Ok(());
+    };
+    push_text(text, ": ")?;
+    push_text(text, form_name(form))
+}
+
+fn form_name(form: LeftOut) -> &'static str
+    ensures { result.now ≡ form_name form }
+{
+    match form {
+        LeftOut::Goroutine => "goroutine",
+        LeftOut::Channel => "channel",
+        LeftOut::Select => "select",
+        LeftOut::Goto => "goto",
+        LeftOut::Generics => "generics",
+        LeftOut::StructTag => "struct tag",
+        LeftOut::DotImport => "dot import",
+        LeftOut::TypeUnion => "type union",
+    }
+}
+
 fn message(code: u8) -> &'static str
     ensures { result.now ≡ message code }
 {
@@ -166,6 +193,9 @@ fn message(code: u8) -> &'static str
         5 => "number too wide",
         6 => "floating-point or imaginary literal",
         7 => "source too long",
+        20 => "unexpected token",
+        21 => "nested too deep",
+        22 => "form left out",
         101 => "bad path",
         102 => "path taken",
         104 => "package unknown",

@@ -1,8 +1,8 @@
 -- The variables stay ints, and each function of a lawful file is lawful.
 use Rattle.std.proofs.Common.{◌≡◌, ℕ, zero, suc, ◌<◌, List, [], ◌∷◌, arith, length, refl, set, subst}
 use Rattle.std.specs.Prelude.{Some, slice_get}
-use Rattle.gno_syntax.specs.declared.tree.FirstFunc.{FirstFunc}
-use Rattle.gno_syntax.specs.Lawful.{AreFuncsIn, IsBodyIn}
+use Rattle.gno_first.specs.declared.tree.FirstFunc.{FirstFunc}
+use Rattle.gno_first.specs.Lawful.{AreFuncsIn, IsBodyIn}
 use Rattle.std.proofs.lemmas.Int.{ints}
 use Rattle.gno_base.specs.Number.{Number}
 use Rattle.gno_base.specs.declared.kind.Kind.TheVariants.{Int}

@@ -5,14 +5,14 @@ use Rattle.std.specs.Option.{unwrap_or}
 use Rattle.std.specs.Fmt.{signed_decimal}
 use Rattle.gno_base.specs.declared.kind.Kind.TheVariants.{Int}
 use Rattle.gno_base.specs.Number.{Number, sum, difference, product}
-use Rattle.gno_syntax.specs.declared.tree.FirstFile.{FirstFile}
-use Rattle.gno_syntax.specs.declared.tree.FirstFunc.{FirstFunc}
-use Rattle.gno_syntax.specs.declared.tree.FirstStmt.{FirstStmt}
-use Rattle.gno_syntax.specs.declared.tree.FirstStmt.TheVariants.{Increment, Assign, Print, Return}
-use Rattle.gno_syntax.specs.declared.tree.FirstExpr.{FirstExpr}
-use Rattle.gno_syntax.specs.declared.tree.FirstExpr.TheVariants.{Name, Number as Literal, NameName, NameNumber, NumberName}
-use Rattle.gno_syntax.specs.declared.tree.FirstOp.{FirstOp}
-use Rattle.gno_syntax.specs.declared.tree.FirstOp.TheVariants.{Add, Sub, Mul}
+use Rattle.gno_first.specs.declared.tree.FirstFile.{FirstFile}
+use Rattle.gno_first.specs.declared.tree.FirstFunc.{FirstFunc}
+use Rattle.gno_first.specs.declared.tree.FirstStmt.{FirstStmt}
+use Rattle.gno_first.specs.declared.tree.FirstStmt.TheVariants.{Increment, Assign, Print, Return}
+use Rattle.gno_first.specs.declared.tree.FirstExpr.{FirstExpr}
+use Rattle.gno_first.specs.declared.tree.FirstExpr.TheVariants.{Name, Number as Literal, NameName, NameNumber, NumberName}
+use Rattle.gno_first.specs.declared.tree.FirstOp.{FirstOp}
+use Rattle.gno_first.specs.declared.tree.FirstOp.TheVariants.{Add, Sub, Mul}
 use Rattle.gno_machine.specs.declared.run.FirstEnd.{FirstEnd}
 use Rattle.gno_machine.specs.declared.run.Step.{Step}
 

@@ -4,10 +4,10 @@ ghost use Rattle.std.specs.Prelude.{ℕ};
 ghost use Rattle.gno_base.specs.Number.{Number};
 ghost use Rattle.gno_machine.specs.Meaning.{Ended, State, after_step, body_meaning, call_meaning, done_end, evaluated, int_of, line_of, operated, printing, run_meaning, spent_at, spent_end, value_at};
 ghost use Rattle.gno_machine.specs.Ints.{AreInts, IsInt};
-ghost use Rattle.gno_syntax.specs.Lawful.{AreFuncsIn, IsBodyIn, IsExprIn, IsStmtIn};
+ghost use Rattle.gno_first.specs.Lawful.{AreFuncsIn, IsBodyIn, IsExprIn, IsStmtIn};
 
 use gno_base::{Bytes, Cycles, List, Spent, Whole};
-use gno_syntax::{FirstExpr, FirstFile, FirstFunc, FirstOp, FirstStmt};
+use gno_first::{FirstExpr, FirstFile, FirstFunc, FirstOp, FirstStmt};
 use std::alloc::{AllocError, Global};
 
 /// There is no memory.

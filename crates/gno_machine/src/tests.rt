@@ -1,9 +1,9 @@
 ghost use Rattle.std.specs.Prelude.{◌≡◌, length, IfOk};
-ghost use Rattle.gno_syntax.specs.Lawful.{AreFuncsIn};
+ghost use Rattle.gno_first.specs.Lawful.{AreFuncsIn};
 
 use crate::{FirstEnd, run_first};
 use gno_base::{Bytes, Cycles, List, Whole};
-use gno_syntax::{FirstExpr, FirstFile, FirstFunc, FirstStmt};
+use gno_first::{FirstExpr, FirstFile, FirstFunc, FirstStmt};
 use std::alloc::{AllocError, Global};
 use std::test::Fail;
 

@@ -1,16 +1,2 @@
-pub mod Repeats
+pub mod Deeper
 pub mod Places
-pub mod Spellings
-pub mod Distinct
-pub mod Pieces
-pub mod Shorter
-pub mod Sound
-pub mod Complete
-pub mod FormLaws
-pub mod Tables
-pub mod PieceSteps
-pub mod TokenSteps
-pub mod Fronts
-pub mod Scans
-pub mod PiecesLaw
-pub mod TokensLaw

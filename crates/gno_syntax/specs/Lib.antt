@@ -1,13 +1,1 @@
-pub mod Names
-pub mod Literals
-pub mod Lawful
-pub mod Reading
-pub mod Form
-pub mod Places
-pub mod Productions
-pub mod Reader
-pub mod Scope
-pub mod Cursor
-pub mod Pieces
-pub mod Tokens
-pub mod Scanning
+pub mod Parsing

@@ -1,22 +1,14 @@
-//! The first form of a source file.
+//! The tree of a source text, or its first fault.
 #![tactic(auto)]
 
-mod cursor;
-mod declared;
+mod construct;
 mod fault;
-mod first;
-mod literals;
-mod names;
-mod operand;
-mod scope;
-mod token;
-mod tokens;
-mod tree;
-mod words;
+mod parse;
 
-pub use fault::FirstFault;
-pub use first::{first_form, first_form_law};
-pub use names::is_name;
-pub use token::Token;
-pub use tokens::{tokens_law, tokens_of};
-pub use tree::{FirstExpr, FirstFile, FirstFunc, FirstOp, FirstStmt};
+pub use fault::SyntaxFault;
+pub use gno_grammar::LeftOut;
+pub use gno_tree::FileTree;
+pub use parse::parse_file;
+
+#[cfg(test)]
+mod tests;

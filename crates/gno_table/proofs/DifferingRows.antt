@@ -9,8 +9,8 @@ use Rattle.std.proofs.lemmas.Slice.Eq.{bytes_eq-Decides}
 use Rattle.std.proofs.lemmas.Bool.Decides.{nat_tests}
 use Rattle.gno_base.specs.Number.{Number}
 use Rattle.gno_machine.specs.Ints.{AreInts}
-use Rattle.gno_syntax.specs.Names.{is_among}
-use Rattle.gno_syntax.specs.Lawful.{are_distinct}
+use Rattle.gno_first.specs.Names.{is_among}
+use Rattle.gno_first.specs.Lawful.{are_distinct}
 use Rattle.gno_port.specs.declared.keeper.Change.{Change}
 use Rattle.gno_port.specs.Tables.{Table, applied, latest}
 use Rattle.gno_port.specs.Keeping.{Puts}

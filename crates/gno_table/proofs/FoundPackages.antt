@@ -12,8 +12,8 @@ use Rattle.std.proofs.lemmas.Int.{ints}
 use Rattle.std.proofs.lemmas.Slice.Eq.{bytes_eq-Decides}
 use Rattle.gno_base.specs.Number.{Number}
 use Rattle.gno_machine.specs.Ints.{AreInts, IsInt}
-use Rattle.gno_syntax.specs.Names.{is_among}
-use Rattle.gno_syntax.specs.Lawful.{are_distinct}
+use Rattle.gno_first.specs.Names.{is_among}
+use Rattle.gno_first.specs.Lawful.{are_distinct}
 use Rattle.gno_port.specs.declared.keeper.Change.{Change}
 use Rattle.gno_port.specs.Tables.{Table, IsRising, latest}
 use Rattle.gno_items.specs.declared.memory.Package.{Package}

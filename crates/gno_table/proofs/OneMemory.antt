@@ -9,9 +9,9 @@ use Rattle.std.proofs.lemmas.Int.{ints}
 use Rattle.std.proofs.lemmas.List.{append_cancel_left}
 use Rattle.gno_base.specs.Number.{Number}
 use Rattle.gno_machine.specs.Ints.{AreInts, IsInt}
-use Rattle.gno_syntax.specs.declared.tree.FirstFile.{FirstFile}
-use Rattle.gno_syntax.specs.Names.{is_among}
-use Rattle.gno_syntax.specs.Lawful.{are_distinct}
+use Rattle.gno_first.specs.declared.tree.FirstFile.{FirstFile}
+use Rattle.gno_first.specs.Names.{is_among}
+use Rattle.gno_first.specs.Lawful.{are_distinct}
 use Rattle.gno_reading.specs.Readings.{IsReading}
 use Rattle.gno_reading.specs.declared.reading.Reading.TheVariants.{First}
 use Rattle.gno_reading.proofs.OneReading.{one_first}

@@ -4,8 +4,8 @@ ghost use Rattle.std.specs.Option.{option_copied};
 ghost use Rattle.gno_base.specs.Number.{Number};
 ghost use Rattle.gno_base.specs.Paths.{kind_of};
 ghost use Rattle.gno_base.specs.declared.path.PathKind.TheVariants.{Realm};
-ghost use Rattle.gno_syntax.specs.Lawful.{IsLawful};
-ghost use Rattle.gno_syntax.specs.declared.tree.FirstFile.{FirstFile as FirstFileOf};
+ghost use Rattle.gno_first.specs.Lawful.{IsLawful};
+ghost use Rattle.gno_first.specs.declared.tree.FirstFile.{FirstFile as FirstFileOf};
 ghost use Rattle.gno_reading.specs.Readings.{IsReading};
 ghost use Rattle.gno_reading.specs.declared.reading.Reading.TheVariants.{First};
 ghost use Rattle.gno_machine.specs.Ints.{AreInts};
@@ -22,10 +22,10 @@ use crate::reading::read_rows;
 use crate::rows::{put_format, put_package, variable_key};
 use crate::sources::{Source, sources_of, word_at};
 use gno_base::{Bytes, List, Path, PathFault, PathKind, Whole};
+use gno_first::FirstFile;
 use gno_items::{Package, Packages};
 use gno_port::{Batch, Change, Changes, KeepFault, Keeper};
 use gno_reading::{Reading, read_text};
-use gno_syntax::FirstFile;
 use std::alloc::{AllocError, Global};
 
 // A table of so many packages is not loaded: the answer is want of memory.

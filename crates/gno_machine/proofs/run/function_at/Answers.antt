@@ -1,7 +1,7 @@
 use Rattle.std.proofs.Common.{◌≡◌, ◌∙◌, ◌<◌, ap, sym, rules, arith, refl, length, List}
 use Rattle.std.specs.Prelude.{Some, slice_get}
 use Rattle.std.proofs.lemmas.Option.{slice_get_read}
-use Rattle.gno_syntax.specs.declared.tree.FirstFunc.{FirstFunc}
+use Rattle.gno_first.specs.declared.tree.FirstFunc.{FirstFunc}
 use Rattle.gno_machine.proofs.Steps.{body-at}
 use Rattle.gno_machine.proofs.run.function_at.Goals as goal
 

@@ -4,7 +4,7 @@ use Rattle.gno_machine.specs.declared.run.Stop.{Stop}
 use Rattle.gno_machine.specs.declared.run.Stop.TheVariants.{Spent, NoMemory}
 use Rattle.gno_base.specs.Number.{Number}
 use Rattle.gno_base.specs.declared.cycles.Cycles.{Cycles}
-use Rattle.gno_syntax.specs.declared.tree.FirstStmt.{FirstStmt}
+use Rattle.gno_first.specs.declared.tree.FirstStmt.{FirstStmt}
 use Rattle.gno_machine.specs.declared.run.Step.{Step}
 use Rattle.gno_machine.specs.Meaning.{Ended, State, after_step, body_meaning, done_at, evaluated, printing, with_value}
 use Rattle.gno_machine.proofs.Charging.{at, charged_fits, two_charges}

@@ -1,5 +1,5 @@
 use Rattle.std.proofs.Common.{◌≡◌, ◌∙◌, ap, sym, Some, List}
-use Rattle.gno_syntax.specs.Places.{place}
+use Rattle.gno_first.specs.Places.{place}
 use Rattle.gno_items.specs.declared.memory.Package.{Package}
 use Rattle.gno_items.specs.Memory.{package_of, paths}
 use Rattle.gno_items.proofs.Index.{found_some, found_none, well_found}

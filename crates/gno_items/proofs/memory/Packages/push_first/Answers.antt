@@ -1,5 +1,5 @@
 use Rattle.std.proofs.Common.{◌≡◌, ◌∙◌, ◌++◌, ◌∷◌, [], List, None, ap, length}
-use Rattle.gno_syntax.specs.Places.{place}
+use Rattle.gno_first.specs.Places.{place}
 use Rattle.gno_items.specs.declared.memory.Package.{Package}
 use Rattle.gno_items.specs.Memory.{paths}
 use Rattle.gno_items.proofs.Index.{index_first}

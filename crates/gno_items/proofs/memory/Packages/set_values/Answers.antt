@@ -1,5 +1,5 @@
 use Rattle.std.proofs.Common.{◌≡◌, ◌∙◌, List, Some, ap, sym, set}
-use Rattle.gno_syntax.specs.Places.{place}
+use Rattle.gno_first.specs.Places.{place}
 use Rattle.gno_items.specs.declared.memory.Package.{Package}
 use Rattle.gno_items.specs.Memory.{paths, with_values}
 use Rattle.gno_items.proofs.Index.{index_same, set_place, set_nowhere}
