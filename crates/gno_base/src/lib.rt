@@ -3,6 +3,7 @@
 
 mod boxed;
 mod caller;
+mod compared;
 mod cycles;
 mod kind;
 mod list;

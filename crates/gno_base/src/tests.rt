@@ -1,5 +1,6 @@
 use crate::{Boxed, Bytes, Cycles, Kind, List, Path, PathFault, PathKind, Shared, Whole};
 use std::alloc::{AllocError, Global};
+use std::cmp::Ordering;
 use std::test::Fail;
 
 // The kind of the path, or none where the text is no path.
@@ -155,5 +156,18 @@ fn a_list_has_its_items_in_order(rt: HostRuntime) -> Result<(), Fail> {
     assert!(rt; list.get(5).is_none());
     assert!(rt; list.as_slice() == [1, 9, 3, 4, 5].as_slice());
     assert!(rt; List::from_vec(list.into_vec()).len() == 5);
+    Ok(())
+}
+
+#[test]
+fn lists_compare_as_their_items_do(rt: HostRuntime) -> Result<(), Fail> {
+    let mut list = Bytes::from_slice(rt.alloc(), &[1, 2])?;
+    let same = list.clone()?;
+    assert!(rt; list == same);
+    assert!(rt; list.cmp(&same) == Ordering::Equal);
+    assert!(rt; list.pop() == Some(2));
+    assert!(rt; list != same);
+    assert!(rt; list < same);
+    assert!(rt; Bytes::new(rt.alloc()).pop().is_none());
     Ok(())
 }
