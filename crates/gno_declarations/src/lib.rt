@@ -1,11 +1,13 @@
-//! The readers of declarations and files.
+//! The readers of declarations, functions and files.
 #![tactic(auto)]
 
 mod declarations;
 mod files;
 mod function;
+mod function_operand;
 mod import;
 mod specs_of;
 
 pub use declarations::{begins_declaration, declaration};
 pub use files::file;
+pub use function_operand::{function, header_function};

@@ -1,20 +1,12 @@
-// Whether a token comes next that begins a header.
+// Whether a token comes next that begins the header of a `for`.
 ghost use Rattle.std.specs.Prelude.{◌≡◌};
 ghost use Rattle.gno_grammar.specs.Readers.{begins};
 ghost use Rattle.gno_rules.specs.Kinds.{code};
-ghost use Rattle.gno_headers.specs.Beginnings.{SWITCH_HEADER, FOR_HEADER};
+ghost use Rattle.gno_headers.specs.Beginnings.{FOR_HEADER};
 
 use gno_operands::begins_expr;
 use gno_reader::Cursor;
 use gno_scan::TokenKind;
-
-/// The header of a `switch`.
-#[tactic(auto, unfolding(gno_reader::proofs::Shown::reading), using(crate::proofs::Firsts::switch_header_begins))]
-pub fn begins_switch_header(tokens: &Cursor<'_>) -> bool
-    ensures { result ≡ begins code SWITCH_HEADER tokens.now }
-{
-    tokens.sees(TokenKind::Semicolon) || begins_expr(tokens)
-}
 
 /// The header of a `for`.
 #[tactic(auto, unfolding(gno_reader::proofs::Shown::reading), using(crate::proofs::Firsts::loop_header_begins))]

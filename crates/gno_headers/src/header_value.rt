@@ -1,37 +1,11 @@
-// What a `switch` chooses by, a statement of a header and the arms of an `if`, of what was read.
+// A statement of a header and the arms of an `if`, of what was read.
 ghost use Rattle.std.specs.Prelude.{◌≡◌, IfOk, []};
 ghost use Rattle.gno_rules.specs.Statements as spec;
 
 use gno_base::List;
-use gno_rules::{Found, SimpleRead, Tag};
-use gno_tree::{Arm, Block, Expr, Guard, Name, Simple, Subject};
+use gno_rules::SimpleRead;
+use gno_tree::{Arm, Block, Expr, Guard, Simple};
 use std::alloc::AllocError;
-
-/// An expression or a guard, behind a name and `:=` where they stand before it.
-pub fn tag_of(found: Found, bound: Option<Name>) -> Tag
-    ensures { result ≡ spec.tag_of found bound }
-{
-    match found {
-        Found::Name(name) => Tag::Expr(Expr::Name(name)),
-        Found::Expr { expr, .. } => Tag::Expr(expr),
-        Found::Guard { of, pos } => Tag::Guard(Guard {
-            name: bound,
-            of,
-            pos,
-        }),
-    }
-}
-
-/// What stands behind the `;`.
-pub fn subject_of(tag: Option<Tag>) -> Subject
-    ensures { result ≡ spec.subject_of tag }
-{
-    match tag {
-        None => Subject::Nothing,
-        Some(Tag::Expr(expr)) => Subject::Expr(expr),
-        Some(Tag::Guard(guard)) => Subject::Guard(guard),
-    }
-}
 
 /// A simple statement of a header.
 pub fn simple_of(read: SimpleRead) -> Simple

@@ -1,12 +1,10 @@
 //! The readers of operands and of the steps behind them.
 #![tactic(auto)]
 
-mod functions;
 mod operand;
 mod sets;
 mod steps;
 
-pub use functions::{function, header_function};
 pub use operand::operand_alone;
 pub use sets::{begins_expr, begins_plain_expr, begins_suffix, begins_suffix_of, plain_expr_kinds};
 pub use steps::suffix;

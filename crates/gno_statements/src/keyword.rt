@@ -11,11 +11,12 @@ ghost use Rattle.gno_rules.specs.declared.expression.Place.TheVariants.{Plain};
 use gno_base::List;
 use gno_declarations::{begins_declaration, declaration};
 use gno_expressions::{plain_expr, values};
-use gno_headers::{for_statement, if_statement, switch_statement};
+use gno_headers::{for_statement, if_statement};
 use gno_operands::begins_expr;
 use gno_reader::{Cursor, Failure, Reader, construct, name};
 use gno_rules::Place;
 use gno_scan::TokenKind;
+use gno_switches::switch_statement;
 use gno_tree::{Expr, Name, Statement};
 
 // Values, or nothing.

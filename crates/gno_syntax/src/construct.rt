@@ -6,9 +6,10 @@ ghost use Rattle.gno_reader.specs.Scope.{reads};
 ghost use Rattle.gno_rules.specs.Kinds.{code};
 ghost use Rattle.gno_rules.specs.Table.{first_of, grammar, rule as rule_of};
 
+use gno_declarations::{function, header_function};
 use gno_expressions::{arguments, elements, index, paren, unary};
 use gno_grammar::Refusal;
-use gno_operands::{begins_expr, function, header_function};
+use gno_operands::begins_expr;
 use gno_reader::{Construct, Cursor, Failure, Level, Reader};
 use gno_rules::{Place, Rule};
 use gno_scan::TokenKind;

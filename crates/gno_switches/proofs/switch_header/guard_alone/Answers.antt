@@ -5,8 +5,8 @@ use Rattle.gno_rules.specs.Shapes.{is_guard, shape_of_operand, with_suffix}
 use Rattle.gno_rules.specs.Expressions.{operand_alone, suffix}
 use Rattle.gno_rules.specs.Statements.{guard_alone}
 use Rattle.gno_rules.specs.declared.expression.Place.TheVariants.{Guard}
-use Rattle.gno_headers.proofs.Turns.{takes_suffix, until_starts, until_turn_fails}
-use Rattle.gno_headers.proofs.switch_header.guard_alone.Goals as goal
+use Rattle.gno_switches.proofs.Turns.{takes_suffix, until_starts, until_turn_fails}
+use Rattle.gno_switches.proofs.switch_header.guard_alone.Goals as goal
 
 pub returns-in_err-operand-2 : goal.returns-in_err-operand-2
 returns-in_err-operand-2 g c =
