@@ -10,7 +10,7 @@ ghost use Rattle.gno_rules.specs.Parts.{a, up_to};
 ghost use Rattle.gno_scan.specs.declared.kind.TokenKind.TheVariants as k;
 
 use crate::declarations::{begins_declaration, declaration};
-use crate::function::function;
+use crate::functions::function;
 use crate::import::imports;
 use gno_base::List;
 use gno_reader::name::name;

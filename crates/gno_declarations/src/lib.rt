@@ -3,8 +3,8 @@
 
 mod declarations;
 mod files;
-mod function;
 mod function_operand;
+mod functions;
 mod import;
 mod specs_of;
 
