@@ -1,0 +1,3 @@
+pub mod Complements
+pub mod Folding
+pub mod Shifts
