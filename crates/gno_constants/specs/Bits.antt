@@ -1,7 +1,13 @@
 -- The bit operators on whole numbers of any size, in two's complement of unlimited width: before the highest bit that is written stand zeros without end in
 -- a number from 0 up, and ones without end in a negative one. So `negsuc n`, which is -(n + 1), has exactly the bits that n has not.
 -- Source: Go specification, "Arithmetic operators", "Integer operators".
-use Rattle.std.specs.Prelude.{ℕ, ◌-◌, ℤ, pos, negsuc, bit_and, bit_or, bit_xor}
+use Rattle.std.specs.Prelude.{ℕ, ◌-◌, ◌^◌, ℤ, pos, negsuc, bit_and, bit_or, bit_xor, Bool}
+use Rattle.std.specs.Int.{int_div_euclid, int_rem_euclid}
+use Rattle.std.specs.Ordering.{int_eq}
+
+-- bit k of z, where bit 0 is the lowest: z divided by 2 ^ k, rounded down, is odd
+abbrev pub has_bit : ℤ → ℕ → Bool
+has_bit z k = int_eq (int_rem_euclid (int_div_euclid z (pos (2 ^ k))) (pos 2)) (pos 1)
 
 -- the number with the bits that z has not: -1 - z
 abbrev pub complement : ℤ → ℤ

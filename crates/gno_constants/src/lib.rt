@@ -3,6 +3,7 @@
 
 mod bits;
 mod constant;
+mod laws;
 mod operator;
 mod order;
 mod shift;
@@ -10,6 +11,7 @@ mod texts;
 mod wholes;
 
 pub use constant::Constant;
+pub use laws::{bits_of_each_place, defined_on_what_it_takes, one_number_has_the_bits};
 pub use operator::{FoldFault, FoldOp, fold};
 
 #[cfg(test)]
