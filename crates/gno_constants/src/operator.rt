@@ -67,7 +67,8 @@ pub enum FoldFault {
 }
 
 /// The constant that the operator gives, worked out exactly. `TooWide` comes exactly where the number is not one of 128
-/// bits, `DivideByZero` exactly at a divisor of 0 and `BadShift` exactly at a negative count.
+/// bits, `DivideByZero` exactly at a divisor of 0 and `BadShift` exactly at a negative count; `NoMemory` only where texts are
+/// joined. Go specification, "Constant expressions".
 pub fn fold(
     alloc: Global,
     op: FoldOp,
