@@ -1,0 +1,3 @@
+// Names and normal forms, worked out by hand.
+mod names;
+mod normal;

@@ -1,0 +1,16 @@
+pub mod KeysDiffer
+pub mod KeyOrder
+pub mod Injective
+pub mod Ends
+pub mod Pushed
+pub mod Numbered
+pub mod Beside
+pub mod Steps
+pub mod Told
+pub mod SetAt
+pub mod Forgotten
+pub mod Defining
+pub mod ErrorName
+pub mod ErrorType
+pub mod Empty
+pub mod Under

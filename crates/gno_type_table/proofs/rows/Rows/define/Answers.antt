@@ -1,0 +1,34 @@
+use Rattle.std.proofs.Common.{◌≡◌, sym, subst, length, map, true}
+use Rattle.std.specs.Prelude.{◌⊎◌}
+use Rattle.gno_terms.specs.declared.term.GoType.{GoType}
+use Rattle.gno_terms.specs.declared.term.DefinitionOf.{DefinitionOf}
+use Rattle.gno_terms.specs.Lawful.{Each}
+use Rattle.gno_terms.specs.Tables.{Table, Below, Defines, type_at}
+use Rattle.gno_terms.specs.Terms.{method_of, term_of}
+use Rattle.gno_type_table.specs.RowTypes.{definition_with, is_defined, table_of}
+use Rattle.gno_type_table.proofs.Defining.{defined_table, forth, back}
+use Rattle.gno_type_table.proofs.rows.Rows.define.Goals as goal
+
+-- what is asked, of the table inside
+asked : (c : goal.Joined-index_mut) → (P : Table → Type 0) → P c.args.self.now → P (table_of c.self.inside.terms.items c.self.inside.definitions.items)
+asked c P h = subst P (sym c.self.view_is) h
+
+pub invariant_of-self : goal.invariant_of-self
+invariant_of-self c = defined_table c.self.inside.terms.items c.self.inside.numbers c.self.inside.definitions.items c.self.invariant c.args.definition
+    (asked c (λ v. Below (length v.types) c.args.definition.of) c.requires.of)
+    (asked c (λ v. Below (length v.types) c.args.definition.underlying) c.requires.underlying)
+    (asked c (λ v. Each (Below (length v.types)) (map method_of c.args.definition.methods)) c.requires.methods)
+    (asked c (λ v. is_defined (term_of (type_at v.types c.args.definition.of)) ≡ true) c.requires.defined)
+
+pub returns-clause-definitions : goal.returns-clause-definitions
+returns-clause-definitions c d =
+    let at = asked c (λ v. Below (length v.types) c.args.definition.of) c.requires.of in
+    let under = asked c (λ v. Below (length v.types) c.args.definition.underlying) c.requires.underlying in
+    let methods = asked c (λ v. Each (Below (length v.types)) (map method_of c.args.definition.methods)) c.requires.methods in
+    let defined = asked c (λ v. is_defined (term_of (type_at v.types c.args.definition.of)) ≡ true) c.requires.defined in
+    let new = asked c (λ v. (e : DefinitionOf GoType) → Defines v e → e.of ≡ type_at v.types c.args.definition.of → ⊥) c.requires.new in (
+      λ h. subst (λ (v : Table). Defines v d ⊎ (d ≡ definition_with (type_at v.types) c.args.definition)) c.self.view_is
+          (forth c.self.inside.terms.items c.self.inside.numbers c.self.inside.definitions.items c.self.invariant c.args.definition at under methods defined new d h),
+      λ h. back c.self.inside.terms.items c.self.inside.numbers c.self.inside.definitions.items c.self.invariant c.args.definition at under methods defined new d
+          (asked c (λ v. Defines v d ⊎ (d ≡ definition_with (type_at v.types) c.args.definition)) h),
+    )

@@ -1,0 +1,3 @@
+pub mod Keys
+pub mod RowTypes
+pub mod ErrorParts

@@ -1,0 +1,12 @@
+//! The table of types.
+#![tactic(auto)]
+
+mod key;
+mod predeclared;
+mod rows;
+mod table;
+
+pub use table::TypeTable;
+
+#[cfg(test)]
+mod tests;

@@ -1,0 +1,174 @@
+// Each type that was met stands once in the table, behind its parts.
+ghost use Rattle.std.specs.Prelude.{◌≡◌, ◌≢◌, [], ◌↔◌, ◌⊎◌, true, ℕ, IfOk, IfSome, IsNone, IsTrue, Some, length, map, slice_get};
+ghost use Rattle.gno_terms.specs.declared.term.GoType.{GoType};
+ghost use Rattle.gno_terms.specs.declared.term.DefinitionOf.{DefinitionOf};
+ghost use Rattle.gno_terms.specs.declared.term.TermOf.{TermOf};
+ghost use Rattle.gno_terms.specs.declared.term.TypeRef.{TypeRef};
+ghost use Rattle.gno_terms.specs.Lawful.{Each, IsLawful};
+ghost use Rattle.gno_terms.specs.Normal.{Identical, normal};
+ghost use Rattle.gno_terms.specs.Tables.{Below, Defines, Grows, Is, IsOfPath, PartsBelow, deep, type_at};
+ghost use Rattle.gno_terms.specs.Terms.{method_of, term_of, term_with};
+ghost use Rattle.gno_type_table.specs.Keys.{by_key, key_of};
+ghost use Rattle.gno_type_table.specs.RowTypes.{IsGood, definition_with, is_defined, is_of_path, unless_of_path};
+
+use crate::key::Key;
+use gno_terms::{DefinitionOf, Term, TypeRef, normal_term};
+use std::alloc::{AllocError, Global};
+use std::collections::BTreeMap;
+use std::marker::Model;
+
+/// The rows of a table: the types that were met, by their numbers, and the definitions of defined types.
+#[derive(Drop)]
+pub(crate) struct Rows {
+    // In their normal forms.
+    terms: Vec<Term>,
+    // The number of each term.
+    numbers: BTreeMap<Key, usize>,
+    // What a declaration says of each defined type, by its number.
+    definitions: Vec<Option<DefinitionOf<TypeRef>>>,
+}
+
+impl Model for Rows {
+    ghost use Rattle.gno_terms.specs.contracts.term.GoType as go_type;
+    ghost use Rattle.gno_terms.specs.Tables.{Table};
+    ghost use Rattle.gno_type_table.specs.RowTypes.{IsTable, table_of};
+    ghost use Rattle.std.specs.Coded.{codes};
+
+    ghost Value = { Table };
+
+    ghost coded = { Prim.hlevel (codes, go_type.the_row.coded) };
+
+    ghost view = { λ it. table_of it.terms.items it.definitions.items };
+
+    ghost invariant = { λ it. IsTable it.terms.items it.numbers it.definitions.items };
+}
+
+impl Rows {
+    /// No rows.
+    pub(crate) fn new(alloc: Global) -> Rows
+        ensures types { result.types ≡ [] }
+        ensures definitions { result.definitions ≡ [] }
+    {
+        Rows {
+            terms: Vec::new(alloc),
+            numbers: BTreeMap::new(alloc),
+            definitions: Vec::new(alloc),
+        }
+    }
+
+    /// What a number stands for, by the numbers of its parts.
+    pub(crate) fn term(&self, t: TypeRef) -> &Term
+        requires { Below (length self.now.types) t }
+        ensures is { Is self.now t (deep self.now.types result.now) }
+        ensures parts { PartsBelow (length self.now.types) result.now }
+    {
+        &self.terms[t.0 as usize]
+    }
+
+    /// What stands in the table is lawful and in its normal form. This states a law and does nothing.
+    pub(crate) fn are_good(&self)
+        ensures { (t : TypeRef) (s : GoType) → Is self.now t s → IsGood s }
+    {
+        let _ = &self.terms;
+    }
+
+    /// Whether two numbers stand for identical types.
+    pub(crate) fn identical(&self, a: TypeRef, b: TypeRef) -> bool
+        ensures { (s u : GoType) → Is self.now a s → Is self.now b u → IsTrue result ↔ Identical s u }
+    {
+        let _ = &self.terms;
+        a == b
+    }
+
+    /// The number of a type, which is added where it was not met.
+    pub(crate) fn intern(&mut self, term: Term) -> Result<TypeRef, AllocError>
+        requires below { PartsBelow (length self.old.types) term }
+        requires lawful { IsLawful (term_with (type_at self.old.types) term) }
+        ensures is { IfOk result (λ t. Is self.new t (normal (deep self.old.types term))) }
+        ensures grows { Grows self.old self.new }
+        ensures definitions { self.new.definitions ≡ self.old.definitions }
+    {
+        let alloc = *self.terms.allocator();
+        let term = normal_term(alloc, term)?;
+        let key = Key::of(alloc, &term)?;
+        match self.numbers.get(&key) {
+            Some(number) => Ok(TypeRef(*number as u64)),
+            None => self.push(key, term),
+        }
+    }
+
+    // Adds a term that is not there. What may find no memory comes before the first change.
+    fn push(&mut self, key: Key, term: Term) -> Result<TypeRef, AllocError>
+        requires key { key ≡ key_of term }
+        requires below { PartsBelow (length self.old.types) term }
+        requires good { IsGood (deep self.old.types term) }
+        requires new { (t : TypeRef) → Is self.old t (deep self.old.types term) → ⊥ }
+        ensures is { IfOk result (λ t. Is self.new t (deep self.old.types term)) }
+        ensures grows { Grows self.old self.new }
+        ensures definitions { self.new.definitions ≡ self.old.definitions }
+    {
+        self.terms.reserve(1)?;
+        self.definitions.reserve(1)?;
+        let number = self.terms.len();
+        self.numbers.insert(key, number)?;
+        self.terms.push(term)?;
+        self.definitions.push(None)?;
+        Ok(TypeRef(number as u64))
+    }
+
+    /// What a declaration says of a type.
+    pub(crate) fn definition(&self, t: TypeRef) -> Option<&DefinitionOf<TypeRef>>
+        requires { Below (length self.now.types) t }
+        ensures some { IfSome result (λ d. Defines self.now (definition_with (type_at self.now.types) d.now)) }
+        ensures own { IfSome result (λ d. d.now.of ≡ t) }
+        ensures none { IsNone result → (d : DefinitionOf GoType) → Defines self.now d → Is self.now t d.of → ⊥ }
+        ensures below { IfSome result (λ d. Below (length self.now.types) d.now.underlying) }
+    {
+        self.definitions[t.0 as usize].as_ref()
+    }
+
+    /// Notes what a declaration says of a defined type.
+    pub(crate) fn define(&mut self, definition: DefinitionOf<TypeRef>)
+        requires of { Below (length self.old.types) definition.of }
+        requires underlying { Below (length self.old.types) definition.underlying }
+        requires methods { Each (Below (length self.old.types)) (map method_of definition.methods) }
+        requires defined { is_defined (term_of (type_at self.old.types definition.of)) ≡ true }
+        requires new { (d : DefinitionOf GoType) → Defines self.old d → d.of ≢ type_at self.old.types definition.of }
+        ensures types { self.new.types ≡ self.old.types }
+        ensures definitions { (d : DefinitionOf GoType) → Defines self.new d ↔ (Defines self.old d ⊎ (d ≡ definition_with (type_at self.old.types) definition)) }
+    {
+        let number = definition.of.0 as usize;
+        self.definitions[number] = Some(definition);
+    }
+
+    /// Forgets what declarations say of the types of a package. Takes no memory.
+    pub(crate) fn undefine(&mut self, path: &[u8])
+        ensures types { self.new.types ≡ self.old.types }
+        ensures definitions { (d : DefinitionOf GoType) → Defines self.new d ↔ (Defines self.old d × (IsOfPath path.now d.of → ⊥)) }
+    {
+        forget(path, &self.terms, &mut self.definitions);
+    }
+}
+
+// Whether a term is a defined type of the package.
+fn is_of_path(path: &[u8], term: &Term) -> bool
+    ensures { result ≡ is_of_path path.now term.now }
+{
+    match term {
+        Term::Defined { path: own, .. } => own.as_slice() == path,
+        _ => false,
+    }
+}
+
+// Takes away the definition beside each defined type of the package.
+fn forget(path: &[u8], terms: &[Term], definitions: &mut Vec<Option<DefinitionOf<TypeRef>>>)
+    requires { length terms.now ≡ length definitions.old.items }
+    ensures size { length definitions.new.items ≡ length definitions.old.items }
+    ensures each { (n : ℕ) (x : TermOf TypeRef) → slice_get terms.now n ≡ Some x → slice_get definitions.new.items n ≡ unless_of_path path.now x (slice_get definitions.old.items n) }
+{
+    for number in 0..definitions.len() {
+        if is_of_path(path, &terms[number]) {
+            definitions[number] = None;
+        }
+    }
+}
