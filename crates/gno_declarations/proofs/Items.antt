@@ -4,8 +4,8 @@ use Rattle.gno_grammar.specs.Readers.{got}
 use Rattle.gno_reader.specs.Scope.{Scope, reads}
 use Rattle.gno_reader.proofs.Turns.{takes}
 use Rattle.gno_rules.specs.Declarations.{const, var, type, import_spec}
-use Rattle.gno_rules.proofs.DeclarationsSound.{sound_declaration, sound_file}
-use Rattle.gno_rules.proofs.TypeEnds.{shown_sets, shown_parts, shown_declarations}
+use Rattle.gno_rule_laws.proofs.DeclarationsSound.{sound_declaration, sound_file}
+use Rattle.gno_rule_laws.proofs.TypeEnds.{shown_sets, shown_parts, shown_declarations}
 use Rattle.gno_scan.specs.declared.token.Token.{Token}
 use Rattle.gno_tree.specs.declared.declaration.ConstSpec.{ConstSpec}
 use Rattle.gno_tree.specs.declared.declaration.TypeSpec.{TypeSpec}

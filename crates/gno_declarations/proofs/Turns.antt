@@ -6,8 +6,8 @@ use Rattle.gno_reader.proofs.Turns.{takes}
 use Rattle.gno_rules.specs.Kinds.{numbers}
 use Rattle.gno_rules.specs.Parts.{P, a, up_to}
 use Rattle.gno_rules.specs.Declarations.{import_declaration, top_level}
-use Rattle.gno_rules.proofs.DeclarationsSound.{sound_file}
-use Rattle.gno_rules.proofs.TypeEnds.{shown_sets, shown_parts, shown_declarations}
+use Rattle.gno_rule_laws.proofs.DeclarationsSound.{sound_file}
+use Rattle.gno_rule_laws.proofs.TypeEnds.{shown_sets, shown_parts, shown_declarations}
 use Rattle.gno_scan.specs.declared.kind.TokenKind.TheVariants as k
 use Rattle.gno_scan.specs.declared.token.Token.{Token}
 use Rattle.gno_tree.specs.declared.file.Import.{Import}

@@ -11,7 +11,7 @@ ghost use Rattle.gno_scan.specs.declared.kind.TokenKind.TheVariants as k;
 use crate::specs_of::{const_spec, type_spec, var_spec};
 use gno_base::List;
 use gno_reader::list::closed_list;
-use gno_reader::{Cursor, Failure, Reader};
+use gno_reader::{Cursor, Failure, ListReader, Reader};
 use gno_scan::TokenKind;
 use gno_tree::{ConstSpec, Declaration, TypeSpec, VarSpec};
 use std::alloc::{AllocError, Global};
@@ -28,7 +28,10 @@ pub fn one<T: Drop>(alloc: Global, item: T) -> Result<List<T>, AllocError>
 // ---- constants
 
 /// `specs )`, with semicolons between them.
-fn const_group<R: Reader>(reader: &R, tokens: &mut Cursor<'_>) -> Result<List<ConstSpec>, Failure>
+fn const_group<R: ListReader>(
+    reader: &R,
+    tokens: &mut Cursor<'_>,
+) -> Result<List<ConstSpec>, Failure>
     requires { R.nests reader.now }
     ensures { Gives (reads (R.scope reader.now) (λ text. closed_by k.Semicolon k.RightParen (spec.const text)) tokens.old) result tokens.new }
 {
@@ -46,7 +49,10 @@ fn const_group<R: Reader>(reader: &R, tokens: &mut Cursor<'_>) -> Result<List<Co
 
 /// One, or any number in parentheses.
 #[tactic(auto, unfolding(gno_reader::proofs::Shown::reading))]
-fn const_specs<R: Reader>(reader: &R, tokens: &mut Cursor<'_>) -> Result<List<ConstSpec>, Failure>
+fn const_specs<R: ListReader>(
+    reader: &R,
+    tokens: &mut Cursor<'_>,
+) -> Result<List<ConstSpec>, Failure>
     requires { R.nests reader.now }
     ensures { Gives (reads (R.scope reader.now) (λ text. spec.one_or_group text (spec.const text)) tokens.old) result tokens.new }
 {
@@ -59,7 +65,10 @@ fn const_specs<R: Reader>(reader: &R, tokens: &mut Cursor<'_>) -> Result<List<Co
 }
 
 #[tactic(auto, unfolding(gno_reader::proofs::Shown::reading, gno_rules::specs::Declarations::const_declaration))]
-fn const_declaration<R: Reader>(reader: &R, tokens: &mut Cursor<'_>) -> Result<Declaration, Failure>
+fn const_declaration<R: ListReader>(
+    reader: &R,
+    tokens: &mut Cursor<'_>,
+) -> Result<Declaration, Failure>
     requires { R.nests reader.now }
     ensures { Gives (reads (R.scope reader.now) spec.const_declaration tokens.old) result tokens.new }
 {
@@ -120,7 +129,7 @@ fn type_declaration<R: Reader>(reader: &R, tokens: &mut Cursor<'_>) -> Result<De
 // ---- variables
 
 /// `specs )`, with semicolons between them.
-fn var_group<R: Reader>(reader: &R, tokens: &mut Cursor<'_>) -> Result<List<VarSpec>, Failure>
+fn var_group<R: ListReader>(reader: &R, tokens: &mut Cursor<'_>) -> Result<List<VarSpec>, Failure>
     requires { R.nests reader.now }
     ensures { Gives (reads (R.scope reader.now) (λ text. closed_by k.Semicolon k.RightParen (spec.var text)) tokens.old) result tokens.new }
 {
@@ -138,7 +147,7 @@ fn var_group<R: Reader>(reader: &R, tokens: &mut Cursor<'_>) -> Result<List<VarS
 
 /// One, or any number in parentheses.
 #[tactic(auto, unfolding(gno_reader::proofs::Shown::reading))]
-fn var_specs<R: Reader>(reader: &R, tokens: &mut Cursor<'_>) -> Result<List<VarSpec>, Failure>
+fn var_specs<R: ListReader>(reader: &R, tokens: &mut Cursor<'_>) -> Result<List<VarSpec>, Failure>
     requires { R.nests reader.now }
     ensures { Gives (reads (R.scope reader.now) (λ text. spec.one_or_group text (spec.var text)) tokens.old) result tokens.new }
 {
@@ -151,7 +160,10 @@ fn var_specs<R: Reader>(reader: &R, tokens: &mut Cursor<'_>) -> Result<List<VarS
 }
 
 #[tactic(auto, unfolding(gno_reader::proofs::Shown::reading, gno_rules::specs::Declarations::var_declaration))]
-fn var_declaration<R: Reader>(reader: &R, tokens: &mut Cursor<'_>) -> Result<Declaration, Failure>
+fn var_declaration<R: ListReader>(
+    reader: &R,
+    tokens: &mut Cursor<'_>,
+) -> Result<Declaration, Failure>
     requires { R.nests reader.now }
     ensures { Gives (reads (R.scope reader.now) spec.var_declaration tokens.old) result tokens.new }
 {
@@ -175,7 +187,10 @@ pub fn begins_declaration(tokens: &Cursor<'_>) -> bool
 
 /// `const specs`, `type specs`, `var specs`
 #[tactic(auto, unfolding(gno_reader::proofs::Shown::reading, gno_rules::specs::Declarations::declaration, gno_rules::specs::Declarations::const_declaration, gno_rules::specs::Declarations::type_declaration))]
-pub fn declaration<R: Reader>(reader: &R, tokens: &mut Cursor<'_>) -> Result<Declaration, Failure>
+pub fn declaration<R: ListReader>(
+    reader: &R,
+    tokens: &mut Cursor<'_>,
+) -> Result<Declaration, Failure>
     requires { R.nests reader.now }
     ensures { Gives (reads (R.scope reader.now) spec.declaration tokens.old) result tokens.new }
 {

@@ -14,13 +14,13 @@ use crate::functions::function;
 use crate::import::imports;
 use gno_base::List;
 use gno_reader::name::name;
-use gno_reader::{Cursor, Failure, Reader};
+use gno_reader::{Cursor, Failure, ListReader, Reader};
 use gno_scan::{Token, TokenKind};
 use gno_tree::{FileTree, Name, TopLevel};
 
 /// A declaration or a function.
 #[tactic(auto, unfolding(gno_reader::proofs::Shown::reading, gno_rules::specs::Declarations::top_level, gno_rules::specs::Declarations::declaration, gno_rules::specs::Declarations::const_declaration, gno_rules::specs::Declarations::type_declaration, gno_rules::specs::Declarations::var_declaration))]
-fn top_level<R: Reader>(reader: &R, tokens: &mut Cursor<'_>) -> Result<TopLevel, Failure>
+fn top_level<R: ListReader>(reader: &R, tokens: &mut Cursor<'_>) -> Result<TopLevel, Failure>
     requires { R.nests reader.now }
     ensures { Gives (reads (R.scope reader.now) spec.top_level tokens.old) result tokens.new }
 {
@@ -34,7 +34,7 @@ fn top_level<R: Reader>(reader: &R, tokens: &mut Cursor<'_>) -> Result<TopLevel,
 
 /// A declaration or a function, and `;`.
 #[tactic(auto, unfolding(gno_reader::proofs::Shown::reading))]
-fn next_top_level<R: Reader>(reader: &R, tokens: &mut Cursor<'_>) -> Result<TopLevel, Failure>
+fn next_top_level<R: ListReader>(reader: &R, tokens: &mut Cursor<'_>) -> Result<TopLevel, Failure>
     requires { R.nests reader.now }
     ensures { Gives (reads (R.scope reader.now) (λ text. up_to (spec.top_level text) (a k.Semicolon)) tokens.old) result tokens.new }
 {
@@ -57,7 +57,7 @@ fn begins_top_level(tokens: &Cursor<'_>) -> bool
 
 /// All declarations and functions of a file.
 #[tactic(auto, unfolding(gno_reader::proofs::Shown::reading, gno_rules::specs::Declarations::top_levels, gno_rules::specs::Declarations::top_level, gno_rules::specs::Declarations::declaration, gno_rules::specs::Declarations::const_declaration, gno_rules::specs::Declarations::type_declaration, gno_rules::specs::Declarations::var_declaration, gno_rules::specs::Declarations::function))]
-fn top_levels<R: Reader>(reader: &R, tokens: &mut Cursor<'_>) -> Result<List<TopLevel>, Failure>
+fn top_levels<R: ListReader>(reader: &R, tokens: &mut Cursor<'_>) -> Result<List<TopLevel>, Failure>
     requires { R.nests reader.now }
     ensures { Gives (reads (R.scope reader.now) spec.top_levels tokens.old) result tokens.new }
 {
@@ -81,7 +81,7 @@ fn package_clause<R: Reader>(reader: &R, tokens: &mut Cursor<'_>) -> Result<(Tok
 
 /// A file.
 #[tactic(auto, unfolding(gno_reader::proofs::Shown::reading, gno_rules::specs::Declarations::file))]
-pub fn file<R: Reader>(reader: &R, tokens: &mut Cursor<'_>) -> Result<FileTree, Failure>
+pub fn file<R: ListReader>(reader: &R, tokens: &mut Cursor<'_>) -> Result<FileTree, Failure>
     requires { R.nests reader.now }
     ensures { Gives (reads (R.scope reader.now) spec.file tokens.old) result tokens.new }
 {

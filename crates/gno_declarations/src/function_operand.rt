@@ -4,15 +4,14 @@ ghost use Rattle.gno_reader.specs.Answers.{Gives};
 ghost use Rattle.gno_reader.specs.Scope.{reads};
 ghost use Rattle.gno_rules.specs.Expressions as spec;
 
-use gno_reader::{Cursor, Failure, Reader, construct};
+use gno_reader::{Cursor, ExprReader, Failure, construct};
 use gno_rules::{Found, Shape, SignatureRead};
 use gno_scan::{Pos, TokenKind};
-use gno_signatures::signature;
 use gno_tree::{Expr, TypeExpr};
 
 /// `func` and a signature.
 #[tactic(auto, unfolding(gno_reader::proofs::Shown::reading, gno_rules::specs::Expressions::function_head))]
-fn function_head<R: Reader>(
+fn function_head<R: ExprReader>(
     reader: &R,
     tokens: &mut Cursor<'_>,
 ) -> Result<(Pos, SignatureRead), Failure>
@@ -20,13 +19,13 @@ fn function_head<R: Reader>(
     ensures { Gives (reads (R.scope reader.now) spec.function_head tokens.old) result tokens.new }
 {
     let pos = tokens.expect(TokenKind::Func)?.pos;
-    let read = signature(reader, tokens)?;
+    let read = reader.signature(tokens)?;
     Ok((pos, read))
 }
 
 /// A function, or the type of one.
 #[tactic(auto, unfolding(gno_reader::proofs::Shown::reading, gno_rules::specs::Expressions::function))]
-pub fn function<R: Reader>(reader: &R, tokens: &mut Cursor<'_>) -> Result<Found, Failure>
+pub fn function<R: ExprReader>(reader: &R, tokens: &mut Cursor<'_>) -> Result<Found, Failure>
     requires { R.nests reader.now }
     ensures { Gives (reads (R.scope reader.now) spec.function tokens.old) result tokens.new }
 {
@@ -48,7 +47,7 @@ pub fn function<R: Reader>(reader: &R, tokens: &mut Cursor<'_>) -> Result<Found,
 
 /// A function in a header.
 #[tactic(auto, unfolding(gno_reader::proofs::Shown::reading, gno_rules::specs::Expressions::header_function))]
-pub fn header_function<R: Reader>(reader: &R, tokens: &mut Cursor<'_>) -> Result<Found, Failure>
+pub fn header_function<R: ExprReader>(reader: &R, tokens: &mut Cursor<'_>) -> Result<Found, Failure>
     requires { R.nests reader.now }
     ensures { Gives (reads (R.scope reader.now) spec.header_function tokens.old) result tokens.new }
 {

@@ -11,10 +11,9 @@ ghost use Rattle.gno_rules.specs.declared.rule.Rule.TheVariants as r;
 
 use gno_grammar::{LeftOut, Refusal};
 use gno_reader::name::{dotted, name};
-use gno_reader::{Cursor, Failure, Reader, construct};
+use gno_reader::{Cursor, ExprReader, Failure, Reader, begins_type, construct};
 use gno_rules::{SignatureRead, TypeRead, qualified};
 use gno_scan::TokenKind;
-use gno_signatures::{begins_type, signature};
 use gno_tree::{Block, Function, Name, Receiver, TypeExpr};
 
 // ---- receivers
@@ -98,7 +97,7 @@ fn optional_block<R: Reader>(reader: &R, tokens: &mut Cursor<'_>) -> Result<Opti
 
 /// `(parameters) results body`
 #[tactic(auto, unfolding(gno_reader::proofs::Shown::reading, gno_rules::specs::Declarations::function_rest))]
-fn function_rest<R: Reader>(
+fn function_rest<R: ExprReader>(
     reader: &R,
     tokens: &mut Cursor<'_>,
 ) -> Result<(SignatureRead, Option<Block>), Failure>
@@ -111,14 +110,14 @@ fn function_rest<R: Reader>(
             begun: 0,
         }));
     }
-    let signature = signature(reader, tokens)?;
+    let signature = reader.signature(tokens)?;
     let body = optional_block(reader, tokens)?;
     Ok((signature, body))
 }
 
 /// `name(parameters) results body`
 #[tactic(auto, unfolding(gno_reader::proofs::Shown::reading, gno_rules::specs::Declarations::function_named))]
-fn function_named<R: Reader>(
+fn function_named<R: ExprReader>(
     reader: &R,
     tokens: &mut Cursor<'_>,
 ) -> Result<(Name, (SignatureRead, Option<Block>)), Failure>
@@ -132,7 +131,7 @@ fn function_named<R: Reader>(
 
 /// `func (receiver) name(parameters) results body`
 #[tactic(auto, unfolding(gno_reader::proofs::Shown::reading, gno_rules::specs::Declarations::function))]
-pub fn function<R: Reader>(reader: &R, tokens: &mut Cursor<'_>) -> Result<Function, Failure>
+pub fn function<R: ExprReader>(reader: &R, tokens: &mut Cursor<'_>) -> Result<Function, Failure>
     requires { R.nests reader.now }
     ensures { Gives (reads (R.scope reader.now) spec.function tokens.old) result tokens.new }
 {

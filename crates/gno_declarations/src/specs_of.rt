@@ -9,29 +9,27 @@ ghost use Rattle.gno_rules.specs.declared.rule.Rule.TheVariants as r;
 ghost use Rattle.gno_scan.specs.declared.kind.TokenKind.TheVariants as k;
 
 use gno_base::List;
-use gno_expressions::values;
 use gno_reader::name::{name, names};
-use gno_reader::{Cursor, Failure, Reader, construct};
+use gno_reader::{Cursor, Failure, ListReader, Reader, begins_type, construct};
 use gno_rules::{Place, TypeRead};
 use gno_scan::TokenKind;
-use gno_signatures::begins_type;
 use gno_tree::{ConstSpec, Expr, TypeExpr, TypeSpec, VarSpec};
 
 /// `= values`
 #[tactic(auto, unfolding(gno_reader::proofs::Shown::reading, gno_rules::specs::Declarations::initial))]
-fn initial<R: Reader>(reader: &R, tokens: &mut Cursor<'_>) -> Result<List<Expr>, Failure>
+fn initial<R: ListReader>(reader: &R, tokens: &mut Cursor<'_>) -> Result<List<Expr>, Failure>
     requires { R.nests reader.now }
     ensures { Gives (reads (R.scope reader.now) spec.initial tokens.old) result tokens.new }
 {
     tokens.expect(TokenKind::Assign)?;
-    values(reader, tokens, Place::Plain)
+    reader.values(tokens, Place::Plain)
 }
 
 // ---- constants
 
 /// `type = values`
 #[tactic(auto, unfolding(gno_reader::proofs::Shown::reading))]
-fn typed_initial<R: Reader>(
+fn typed_initial<R: ListReader>(
     reader: &R,
     tokens: &mut Cursor<'_>,
 ) -> Result<(Option<TypeExpr>, List<Expr>), Failure>
@@ -45,7 +43,7 @@ fn typed_initial<R: Reader>(
 
 /// `= values`, `type = values` or nothing
 #[tactic(auto, unfolding(gno_reader::proofs::Shown::reading, gno_rules::specs::Declarations::initial))]
-fn const_value<R: Reader>(
+fn const_value<R: ListReader>(
     reader: &R,
     tokens: &mut Cursor<'_>,
 ) -> Result<(Option<TypeExpr>, List<Expr>), Failure>
@@ -64,7 +62,7 @@ fn const_value<R: Reader>(
 
 /// `names type = values`
 #[tactic(auto, unfolding(gno_reader::proofs::Shown::reading, crate::proofs::Shown::specs))]
-pub fn const_spec<R: Reader>(reader: &R, tokens: &mut Cursor<'_>) -> Result<ConstSpec, Failure>
+pub fn const_spec<R: ListReader>(reader: &R, tokens: &mut Cursor<'_>) -> Result<ConstSpec, Failure>
     requires { R.nests reader.now }
     ensures { Gives (reads (R.scope reader.now) spec.const tokens.old) result tokens.new }
 {
@@ -77,7 +75,10 @@ pub fn const_spec<R: Reader>(reader: &R, tokens: &mut Cursor<'_>) -> Result<Cons
 
 /// `= values` or nothing
 #[tactic(auto, unfolding(gno_reader::proofs::Shown::reading, gno_rules::specs::Declarations::initial))]
-fn optional_initial<R: Reader>(reader: &R, tokens: &mut Cursor<'_>) -> Result<List<Expr>, Failure>
+fn optional_initial<R: ListReader>(
+    reader: &R,
+    tokens: &mut Cursor<'_>,
+) -> Result<List<Expr>, Failure>
     requires { R.nests reader.now }
     ensures { Gives (reads (R.scope reader.now) (λ text. either (spec.initial text) (nothing [])) tokens.old) result tokens.new }
 {
@@ -89,7 +90,7 @@ fn optional_initial<R: Reader>(reader: &R, tokens: &mut Cursor<'_>) -> Result<Li
 
 /// `= values`, `type = values` or `type`
 #[tactic(auto, unfolding(gno_reader::proofs::Shown::reading, gno_rules::specs::Declarations::initial))]
-fn var_value<R: Reader>(
+fn var_value<R: ListReader>(
     reader: &R,
     tokens: &mut Cursor<'_>,
 ) -> Result<(Option<TypeExpr>, List<Expr>), Failure>
@@ -107,7 +108,7 @@ fn var_value<R: Reader>(
 
 /// `names type = values`
 #[tactic(auto, unfolding(gno_reader::proofs::Shown::reading, crate::proofs::Shown::specs))]
-pub fn var_spec<R: Reader>(reader: &R, tokens: &mut Cursor<'_>) -> Result<VarSpec, Failure>
+pub fn var_spec<R: ListReader>(reader: &R, tokens: &mut Cursor<'_>) -> Result<VarSpec, Failure>
     requires { R.nests reader.now }
     ensures { Gives (reads (R.scope reader.now) spec.var tokens.old) result tokens.new }
 {

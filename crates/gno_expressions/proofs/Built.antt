@@ -4,6 +4,7 @@ use Rattle.gno_grammar.specs.Readers.{Outcome, got, and_then, map, run, why}
 use Rattle.gno_scan.specs.declared.token.Token.{Token}
 use Rattle.gno_reader.specs.Answers.{Fails, one_token}
 use Rattle.gno_reader.specs.Scope.{Scope, reads}
+use Rattle.gno_reader.proofs.Built.{built, fails_first, fails_same}
 use Rattle.gno_reader.specs.declared.cursor.Failure.{Failure}
 use Rattle.gno_reader.specs.declared.cursor.Failure.TheVariants.{NoMemory, Refused}
 use Rattle.gno_rules.specs.Shapes.{end_of, shape_of_operand, with_suffix, shape_of_operands, with_operation, found_of_operands, operators_behind, within_place}
@@ -16,19 +17,6 @@ use Rattle.gno_rules.specs.declared.expression.Shape.{Shape}
 use Rattle.gno_rules.specs.declared.expression.Suffix.{Suffix}
 use Rattle.gno_rules.specs.declared.types.TypeEnd.{TypeEnd}
 use Rattle.gno_expressions.specs.Turn.{turn, level}
-
--- a value is built of what was read
-pub built : {B C : Type 0} (f : B → C) (o : Outcome Token B) (b : B) (mid : List Token) (v : C) → o ≡ got b mid → v ≡ f b → and_then o (λ b rest. got (f b) rest) ≡ got v mid
-built {C = C} f o b mid v e is = ap {B = Outcome Token C} (λ o. and_then o (λ b rest. got (f b) rest)) e ∙ ap {B = Outcome Token C} (λ v. got v mid) (sym is)
-
--- a part that fails first is what the whole answers
-pub fails_first : {A B : Type 0} (o : Outcome Token A) (q : A → List Token → Outcome Token B) (failure : Failure) (us : List Token) → Fails o failure us → Fails (and_then o q) failure us
-fails_first o q NoMemory us h = tt
-fails_first {B = B} o q (Refused w) us h = ap {B = Outcome Token B} (λ o. and_then o q) h
-
-fails_same : {A : Type 0} (o o' : Outcome Token A) (failure : Failure) (us : List Token) → o ≡ o' → Fails o' failure us → Fails o failure us
-fails_same o o' NoMemory us e h = tt
-fails_same o o' (Refused w) us e h = e ∙ h
 
 -- ---- a step behind an operand
 

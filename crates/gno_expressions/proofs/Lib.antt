@@ -1,5 +1,4 @@
 pub mod Turns
 pub mod Loops
 pub mod LevelSets
-pub mod Lists
 pub mod Built

@@ -21,27 +21,16 @@ use Rattle.gno_rules.specs.declared.expression.Shape.TheVariants as s
 use Rattle.gno_rules.specs.declared.expression.Suffix.{Suffix}
 use Rattle.gno_rules.specs.declared.types.TypeEnd.{TypeEnd}
 use Rattle.gno_rules.specs.declared.types.TypeEnd.TheVariants.{Closed, Name as Named, Open}
-use Rattle.gno_rules.proofs.EachCase.{sound_to}
-use Rattle.gno_rules.proofs.ListsSound.{shown_lists}
-use Rattle.gno_rules.proofs.OperandsSound.{sound_suffix, null_suffix}
-use Rattle.gno_rules.proofs.OperationsSound.{sound_expr, sound_operations_1, sound_operations_2, sound_operations_3, sound_operations_4, sound_operations_5}
+use Rattle.gno_rule_laws.proofs.EachCase.{sound_to}
+use Rattle.gno_rule_laws.proofs.ListsSound.{shown_lists}
+use Rattle.gno_rule_laws.proofs.OperandsSound.{sound_suffix, null_suffix}
+use Rattle.gno_rule_laws.proofs.OperationsSound.{sound_expr, sound_operations_1, sound_operations_2, sound_operations_3, sound_operations_4, sound_operations_5}
 use Rattle.gno_expressions.specs.Turn.{turn}
-use Rattle.gno_operands.proofs.Shown.{steps}
+use Rattle.gno_reader.proofs.Shown.{steps}
 
 pub takes_suffix : (scope : Scope) (place : Place) (x : Shape) (ts : List Token) (v : Suffix) (rest : List Token)
     → reads scope (λ text. suffix text place x) ts ≡ got v rest → length rest < length ts
 takes_suffix scope place x ts v rest e = takes scope (λ text. suffix text place x) (sound_suffix scope.text place x) (null_suffix scope.text place x) ts v rest e
-
-pub takes_further_expr : (scope : Scope) (place : Place) (ts : List Token) (v : Found) (rest : List Token)
-    → reads scope (λ text. past (a k.Comma) (expr text (within_place place))) ts ≡ got v rest → length rest < length ts
-unfolding shown_lists
-takes_further_expr scope place ts v rest e = takes scope (λ text. past (a k.Comma) (expr text (within_place place))) (refl, sound_expr scope.text (within_place place), refl) refl ts v rest e
-
-pub takes_further_value : (scope : Scope) (place : Place) (ts : List Token) (v : Expr) (rest : List Token)
-    → reads scope (λ text. past (a k.Comma) (to expr_of (expr text (within_place place)))) ts ≡ got v rest → length rest < length ts
-unfolding shown_lists
-takes_further_value scope place ts v rest e = takes scope (λ text. past (a k.Comma) (to expr_of (expr text (within_place place))))
-    (refl, sound_to scope.text expr_of (expr scope.text (within_place place)) (sound_expr scope.text (within_place place)), refl) refl ts v rest e
 
 -- ---- an operator of a level, and its operand
 

@@ -9,10 +9,8 @@ ghost use Rattle.gno_expressions.specs.Turn.{turn, level as level_of};
 
 use crate::operators::{goes_on, operator};
 use crate::primary::unary;
-use gno_base::Boxed;
 use gno_reader::{Cursor, Failure, Reader};
 use gno_rules::{Found, Operands, Place};
-use gno_tree::Expr;
 
 /// The operands with an operator of that level and one more operand.
 #[cycle(operations)]
@@ -84,24 +82,4 @@ pub fn expr<R: Reader>(reader: &R, tokens: &mut Cursor<'_>, place: Place) -> Res
     ensures { Gives (reads (R.scope reader.now) (λ text. spec.expr text place) tokens.old) result tokens.new }
 {
     operations(reader, tokens, place, 5)
-}
-
-/// An expression that stands in no header.
-#[tactic(auto, unfolding(gno_reader::proofs::Shown::reading, gno_rules::specs::Expressions::plain_expr))]
-pub fn plain_expr<R: Reader>(reader: &R, tokens: &mut Cursor<'_>) -> Result<Expr, Failure>
-    requires { R.nests reader.now }
-    ensures { Gives (reads (R.scope reader.now) spec.plain_expr tokens.old) result tokens.new }
-{
-    let found = expr(reader, tokens, Place::Plain)?;
-    Ok(found.into_expr())
-}
-
-/// The same on the heap.
-#[tactic(auto, unfolding(gno_reader::proofs::Shown::reading))]
-pub fn boxed_expr<R: Reader>(reader: &R, tokens: &mut Cursor<'_>) -> Result<Boxed<Expr>, Failure>
-    requires { R.nests reader.now }
-    ensures { Gives (reads (R.scope reader.now) spec.plain_expr tokens.old) result tokens.new }
-{
-    let expr = plain_expr(reader, tokens)?;
-    Ok(Boxed::new(reader.alloc(), expr)?)
 }

@@ -10,8 +10,8 @@ ghost use Rattle.gno_rules.specs.Parts.{any};
 ghost use Rattle.gno_rules.specs.Shapes.{UNARY, EXPRESSION, MOST, is_guard, prefixed, shape_of_operand, with_suffix};
 ghost use Rattle.gno_rules.specs.Table.{grammar};
 
-use gno_operands::{begins_suffix_of, operand_alone, suffix};
-use gno_reader::{Cursor, Failure, Reader, construct};
+use gno_operands::{operand_alone, suffix};
+use gno_reader::{Cursor, Failure, Reader, begins_suffix_of, construct};
 use gno_rules::{Found, Operand, Place, prefixed};
 use gno_scan::TokenKind;
 

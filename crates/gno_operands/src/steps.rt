@@ -1,6 +1,6 @@
 // The steps behind an operand.
 ghost use Rattle.std.specs.Prelude.{◌≡◌};
-ghost use Rattle.gno_operands.specs.Placed.{placed};
+ghost use Rattle.gno_reader.specs.Placed.{placed};
 ghost use Rattle.gno_grammar.specs.Readers.{map};
 ghost use Rattle.gno_reader.specs.Answers.{Gives};
 ghost use Rattle.gno_reader.specs.Scope.{reads};

@@ -12,11 +12,11 @@ use Rattle.gno_reader.specs.declared.cursor.Failure.TheVariants.{NoMemory, Refus
 use Rattle.gno_rules.specs.Kinds.{code}
 use Rattle.gno_grammar.proofs.Plain.{easy}
 use Rattle.gno_rules.specs.Parts.{P, a, to, past, name}
-use Rattle.gno_rules.proofs.TypeEnds.{shown_sets}
+use Rattle.gno_rule_laws.proofs.TypeEnds.{shown_sets}
 use Rattle.gno_scan.specs.declared.kind.TokenKind.TheVariants as k
 use Rattle.gno_tree.specs.declared.word.Name.{Name}
 use Rattle.gno_rules.specs.Table.{grammar}
-use Rattle.gno_rules.proofs.Sound.{sounds, words}
+use Rattle.gno_rule_laws.proofs.Sound.{sounds, words}
 
 -- a phrase of which no word is empty takes a token
 pub takes : {A : Type 0} (scope : Scope) (phrase : List ℕ → P A) → Sound (grammar scope.text) (phrase scope.text) → null (grammar scope.text) (phrase scope.text) ≡ false

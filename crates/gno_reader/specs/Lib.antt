@@ -1,4 +1,5 @@
 pub mod Answers
 pub mod Scope
-pub mod Nests
+pub mod Constructs
 pub mod Lists
+pub mod Placed

@@ -1,16 +1,17 @@
 // Names and literals.
-ghost use Rattle.std.specs.Prelude.{◌≡◌, IfOk};
+ghost use Rattle.std.specs.Prelude.{◌≡◌, IfOk, [], ◌∷◌};
 ghost use Rattle.gno_reader.specs.Answers.{Gives};
 ghost use Rattle.gno_reader.specs.Scope.{reads};
 ghost use Rattle.gno_rules.specs.Parts as spec;
 ghost use Rattle.gno_rules.specs.Parts.{past, a};
+ghost use Rattle.gno_rules.specs.Signatures.{further_names};
 ghost use Rattle.gno_scan.specs.declared.kind.TokenKind.TheVariants as k;
 
 use crate::{Cursor, Failure, Reader};
 use gno_base::{Bytes, List};
 use gno_scan::{Token, TokenKind};
 use gno_tree::{Literal, LiteralKind, Name};
-use std::alloc::AllocError;
+use std::alloc::{AllocError, Global};
 
 /// The bytes of a token.
 fn spelling<R: Reader>(reader: &R, token: Token) -> Result<Bytes, AllocError>
@@ -80,6 +81,27 @@ pub fn names<R: Reader>(reader: &R, tokens: &mut Cursor<'_>) -> Result<List<Name
 {
     let mut names = List::new(reader.alloc());
     names.push(name(reader, tokens)?)?;
+    while tokens.sees(TokenKind::Comma) {
+        names.push(further_name(reader, tokens)?)?;
+    }
+    Ok(names)
+}
+
+/// A list of one name.
+pub fn one_name(alloc: Global, name: Name) -> Result<List<Name>, AllocError>
+    ensures { IfOk result (λ names. names ≡ name ∷ []) }
+{
+    let mut names = List::new(alloc);
+    names.push(name)?;
+    Ok(names)
+}
+
+/// `, name` any number of times
+#[tactic(auto, unfolding(crate::proofs::Shown::reading, gno_rules::specs::Signatures::further_names))]
+pub fn further_names<R: Reader>(reader: &R, tokens: &mut Cursor<'_>) -> Result<List<Name>, Failure>
+    ensures { Gives (reads (R.scope reader.now) further_names tokens.old) result tokens.new }
+{
+    let mut names = List::new(reader.alloc());
     while tokens.sees(TokenKind::Comma) {
         names.push(further_name(reader, tokens)?)?;
     }

@@ -3,8 +3,10 @@ ghost use Rattle.std.specs.Prelude.{◌≡◌};
 
 use crate::{Cursor, Failure};
 use gno_base::List;
-use gno_rules::{Elements, Found, OperandType, Rule, TypeRead};
-use gno_tree::{Block, Case, Step};
+use gno_rules::{
+    Elements, Exprs, Found, Kind, OperandType, Place, Rule, SignatureRead, SimpleRead, TypeRead,
+};
+use gno_tree::{Block, Case, Expr, Step};
 use std::alloc::Global;
 
 /// What a construct gives.
@@ -22,7 +24,7 @@ pub enum Construct {
 /// What reads the tokens of a text. The constructs that nest in what is read are read one level deeper.
 pub trait Reader {
     ghost use Rattle.gno_reader.specs.Scope.{Scope, nested};
-    ghost use Rattle.gno_reader.specs.Nests.{GivesConstruct};
+    ghost use Rattle.gno_reader.specs.Constructs.{GivesConstruct};
 
     /// Where it reads.
     ghost scope: { Self → Scope };
@@ -41,33 +43,49 @@ pub trait Reader {
         ensures { GivesConstruct rule (nested (scope self.now) rule tokens.old) result tokens.new };
 }
 
-/// A reader that is passed the function that reads the constructs one level deeper.
-#[derive(Clone, Copy)]
-pub struct Level<'t, F> {
-    pub alloc: Global,
-    pub text: &'t [u8],
-    /// How deep constructs may nest in what is read.
-    pub depth: usize,
-    pub construct: F,
+/// A reader that reads expressions and signatures.
+pub trait ExprReader: Reader {
+    ghost use Rattle.gno_reader.specs.Answers.{Gives};
+    ghost use Rattle.gno_reader.specs.Scope.{reads};
+    ghost use Rattle.gno_rules.specs.Expressions as spec;
+    ghost use Rattle.gno_rules.specs.Signatures.{signature};
+
+    /// Reads an expression.
+    fn expr(&self, tokens: &mut Cursor<'_>, place: Place) -> Result<Found, Failure>
+        requires { Self.nests self.now }
+        ensures { Gives (reads (Self.scope self.now) (λ text. spec.expr text place) tokens.old) result tokens.new };
+
+    /// Reads a signature: parameters and results.
+    fn signature(&self, tokens: &mut Cursor<'_>) -> Result<SignatureRead, Failure>
+        requires { Self.nests self.now }
+        ensures { Gives (reads (Self.scope self.now) signature tokens.old) result tokens.new };
 }
 
-impl<'t, F: Fn(Global, &[u8], &mut Cursor<'_>, usize, Rule) -> Result<Construct, Failure>> Reader
-    for Level<'t, F> {
-    ghost use Rattle.gno_reader.specs.Nests.{Nests};
+/// A reader that reads lists of expressions.
+pub trait ListReader: ExprReader {
+    ghost use Rattle.gno_reader.specs.Answers.{Gives};
+    ghost use Rattle.gno_reader.specs.Scope.{reads};
+    ghost use Rattle.gno_rules.specs.Expressions as spec;
 
-    ghost scope = { λ level. record { text = level.text.now; depth = level.depth } };
+    /// Reads one expression or more, with commas between them.
+    fn exprs(&self, tokens: &mut Cursor<'_>, place: Place) -> Result<Exprs, Failure>
+        requires { Self.nests self.now }
+        ensures { Gives (reads (Self.scope self.now) (λ text. spec.exprs text place) tokens.old) result tokens.new };
 
-    ghost nests = { λ level. Nests (record { text = level.text.now; depth = level.depth }) (F.pre level.construct) (F.post level.construct) };
+    /// Reads one value or more, with commas between them.
+    fn values(&self, tokens: &mut Cursor<'_>, place: Place) -> Result<List<Expr>, Failure>
+        requires { Self.nests self.now }
+        ensures { Gives (reads (Self.scope self.now) (λ text. spec.values text place) tokens.old) result tokens.new };
+}
 
-    fn alloc(&self) -> Global {
-        self.alloc
-    }
+/// A reader that reads simple statements.
+pub trait SimpleReader: ListReader {
+    ghost use Rattle.gno_reader.specs.Answers.{Gives};
+    ghost use Rattle.gno_reader.specs.Scope.{reads};
+    ghost use Rattle.gno_rules.specs.Statements as spec;
 
-    fn text(&self) -> &[u8] {
-        self.text
-    }
-
-    fn construct(&self, tokens: &mut Cursor<'_>, rule: Rule) -> Result<Construct, Failure> {
-        (self.construct)(self.alloc, self.text, tokens, self.depth, rule)
-    }
+    /// Reads a simple statement, or what else may stand at its place.
+    fn simple_statements(&self, tokens: &mut Cursor<'_>, place: Kind) -> Result<SimpleRead, Failure>
+        requires { Self.nests self.now }
+        ensures { Gives (reads (Self.scope self.now) (λ text. spec.simple_statements text place) tokens.old) result tokens.new };
 }

@@ -12,7 +12,7 @@ use Rattle.gno_scan.specs.declared.token.ScanFault.TheVariants.{At as ScanAt}
 use Rattle.gno_scan.specs.declared.token.Token.{Token}
 use Rattle.gno_tree.specs.declared.file.FileTree.{FileTree}
 use Rattle.gno_rules.specs.Files.{IsOutcome}
-use Rattle.gno_rules.proofs.FileLaws.{same_outcome}
+use Rattle.gno_rule_laws.proofs.FileLaws.{same_outcome}
 use Rattle.gno_first.specs.Form.{first_of}
 use Rattle.gno_first.specs.declared.tree.FirstFile.{FirstFile}
 use Rattle.gno_syntax.specs.Parsing.{code_of, form_of, refused_at, end_of}

@@ -2,14 +2,12 @@
 #![tactic(auto)]
 
 mod expression;
-mod laws;
 mod parameters;
 mod rule;
 mod statement;
 mod types;
 
 pub use expression::{Elements, Exprs, Found, Operand, Operands, Place, Shape, Suffix, prefixed};
-pub use laws::{one_outcome, one_tree};
 pub use parameters::{Entry, ListState, ParameterList, nameless, qualified};
 pub use rule::Rule;
 pub use statement::{

@@ -9,19 +9,11 @@ use Rattle.gno_rules.specs.Signatures.{next_entry}
 use Rattle.gno_rules.specs.Table.{grammar}
 use Rattle.gno_rules.specs.declared.parameters.Entry.{Entry}
 use Rattle.gno_rules.specs.declared.parameters.ListState.{ListState}
-use Rattle.gno_rules.proofs.SignaturesSound.{sound_parameters}
-use Rattle.gno_rules.proofs.TypeEnds.{shown_sets, shown_parts, shown_signatures}
+use Rattle.gno_rule_laws.proofs.SignaturesSound.{sound_parameters}
+use Rattle.gno_rule_laws.proofs.TypeEnds.{shown_sets, shown_parts, shown_signatures}
 use Rattle.gno_scan.specs.declared.kind.TokenKind.TheVariants as k
 use Rattle.gno_scan.specs.declared.token.Token.{Token}
 use Rattle.gno_tree.specs.declared.word.Name.{Name}
-
--- a comma and a name
-abbrev pub further_name : List ℕ → P Name
-further_name text = past (a k.Comma) (name text)
-
-pub takes_further_name : (scope : Scope) (ts : List Token) (v : Name) (rest : List Token) → reads scope further_name ts ≡ got v rest → length rest < length ts
-unfolding shown_sets shown_parts
-takes_further_name scope = takes scope further_name (easy (grammar scope.text) (further_name scope.text) refl) refl
 
 -- a comma, and an entry behind it
 abbrev pub next : Bool → ListState → List ℕ → P Entry

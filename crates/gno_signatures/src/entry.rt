@@ -1,5 +1,5 @@
 // The entries of a list of parameters.
-ghost use Rattle.std.specs.Prelude.{◌≡◌, [], ◌∷◌, true, false, IfOk};
+ghost use Rattle.std.specs.Prelude.{◌≡◌, [], ◌∷◌, true, false};
 ghost use Rattle.gno_grammar.specs.Phrases.{nothing, either, construct};
 ghost use Rattle.gno_grammar.specs.Readers.{map};
 ghost use Rattle.gno_reader.specs.Answers.{Gives};
@@ -10,14 +10,12 @@ ghost use Rattle.gno_rules.specs.declared.parameters.Entry.TheVariants as e;
 ghost use Rattle.gno_rules.specs.declared.parameters.ListState.TheVariants as s;
 ghost use Rattle.gno_rules.specs.declared.rule.Rule.TheVariants as r;
 
-use crate::type_names::{begins_other_type, begins_type};
 use gno_base::List;
-use gno_reader::name::{dotted, further_name, name};
-use gno_reader::{Cursor, Failure, Reader, construct};
+use gno_reader::name::{dotted, further_names, name, one_name};
+use gno_reader::{Cursor, Failure, Reader, begins_other_type, begins_type, construct};
 use gno_rules::{Entry, ListState, TypeRead, qualified};
 use gno_scan::TokenKind;
 use gno_tree::{Name, TypeExpr};
-use std::alloc::{AllocError, Global};
 
 // ---- the types of entries
 
@@ -53,15 +51,6 @@ fn type_entry<R: Reader>(reader: &R, tokens: &mut Cursor<'_>) -> Result<Entry, F
 }
 
 // ---- behind a name
-
-/// A list of one name.
-pub fn one_name(alloc: Global, name: Name) -> Result<List<Name>, AllocError>
-    ensures { IfOk result (λ names. names ≡ name ∷ []) }
-{
-    let mut names = List::new(alloc);
-    names.push(name)?;
-    Ok(names)
-}
 
 /// What stands behind a name where names alone stood before it: `.name`, a type or nothing.
 #[tactic(auto, unfolding(gno_reader::proofs::Shown::reading, gno_rules::specs::Parts::dotted, gno_rules::specs::Signatures::behind_name))]
@@ -161,18 +150,6 @@ pub(crate) fn first_entry<R: Reader>(
 }
 
 // ---- named entries
-
-/// `, name` any number of times
-#[tactic(auto, unfolding(gno_reader::proofs::Shown::reading, gno_rules::specs::Signatures::further_names))]
-pub fn further_names<R: Reader>(reader: &R, tokens: &mut Cursor<'_>) -> Result<List<Name>, Failure>
-    ensures { Gives (reads (R.scope reader.now) spec.further_names tokens.old) result tokens.new }
-{
-    let mut names = List::new(reader.alloc());
-    while tokens.sees(TokenKind::Comma) {
-        names.push(further_name(reader, tokens)?)?;
-    }
-    Ok(names)
-}
 
 /// `, names type`, behind a name
 #[tactic(auto, unfolding(gno_reader::proofs::Shown::reading, gno_rules::specs::Signatures::group_rest))]

@@ -7,7 +7,7 @@ use Rattle.gno_rules.specs.Statements.{define_one}
 use Rattle.gno_rules.specs.Table.{grammar}
 use Rattle.gno_rules.specs.declared.statement.Kind.{Kind}
 use Rattle.gno_rules.specs.declared.statement.Kind.TheVariants as kind
-use Rattle.gno_rules.proofs.TypeEnds.{shown}
+use Rattle.gno_rule_laws.proofs.TypeEnds.{shown}
 
 pub first_define_one : (text : List ℕ) (place : Kind) → first (grammar text) (define_one text place) ≡ numbers (k.Define ∷ [])
 unfolding shown

@@ -8,4 +8,3 @@ mod simple_value;
 mod tail;
 
 pub use simple::simple_statements;
-pub use tail::range_of;

@@ -19,21 +19,11 @@ use crate::left::Left;
 use crate::operator::{assign_operator, place_of, step_operator};
 use crate::simple_value::defined;
 use gno_base::List;
-use gno_expressions::{expr, exprs, values};
-use gno_reader::{Cursor, Failure, Reader};
+use gno_reader::phrase::range_of;
+use gno_reader::{Cursor, Failure, ListReader, Reader};
 use gno_rules::{Kind, Place, Tail};
 use gno_scan::{Pos, TokenKind};
 use gno_tree::{AssignOperator, Expr};
-
-/// `range expression`
-#[tactic(auto, unfolding(gno_reader::proofs::Shown::reading, gno_rules::specs::Statements::range_of))]
-pub fn range_of<R: Reader>(reader: &R, tokens: &mut Cursor<'_>) -> Result<Expr, Failure>
-    requires { R.nests reader.now }
-    ensures { Gives (reads (R.scope reader.now) spec.range_of tokens.old) result tokens.new }
-{
-    tokens.expect(TokenKind::Range)?;
-    Ok(expr(reader, tokens, Place::Header)?.into_expr())
-}
 
 // `= right`
 fn assigned_to(pos: Pos, right: List<Expr>) -> Tail
@@ -48,7 +38,7 @@ fn assigned_to(pos: Pos, right: List<Expr>) -> Tail
 
 // What stands behind `=`: values, and in the header of a `for` perhaps `range expression`.
 #[tactic(auto, unfolding(gno_reader::proofs::Shown::reading, gno_rules::specs::Statements::assigned, gno_rules::specs::Statements::range_of))]
-fn assigned<R: Reader>(
+fn assigned<R: ListReader>(
     reader: &R,
     tokens: &mut Cursor<'_>,
     place: Kind,
@@ -58,15 +48,15 @@ fn assigned<R: Reader>(
     ensures { Gives (map (λ f. f pos) (reads (R.scope reader.now) (λ text. spec.assigned text place)) tokens.old) result tokens.new }
 {
     match place {
-        Kind::Body => Ok(assigned_to(pos, values(reader, tokens, Place::Plain)?)),
-        Kind::Header | Kind::Switch => Ok(assigned_to(pos, values(reader, tokens, Place::Header)?)),
+        Kind::Body => Ok(assigned_to(pos, reader.values(tokens, Place::Plain)?)),
+        Kind::Header | Kind::Switch => Ok(assigned_to(pos, reader.values(tokens, Place::Header)?)),
         Kind::For => {
             if tokens.sees(TokenKind::Range) {
                 return Ok(Tail::RangeAssign {
                     of: range_of(reader, tokens)?,
                 });
             }
-            Ok(assigned_to(pos, values(reader, tokens, Place::Header)?))
+            Ok(assigned_to(pos, reader.values(tokens, Place::Header)?))
         }
     }
 }
@@ -94,7 +84,11 @@ fn begins_assign(tokens: &Cursor<'_>) -> bool
 
 // `operator= values`
 #[tactic(auto, unfolding(gno_reader::proofs::Shown::reading))]
-fn operated<R: Reader>(reader: &R, tokens: &mut Cursor<'_>, place: Place) -> Result<Tail, Failure>
+fn operated<R: ListReader>(
+    reader: &R,
+    tokens: &mut Cursor<'_>,
+    place: Place,
+) -> Result<Tail, Failure>
     requires { R.nests reader.now }
     ensures { Gives (reads (R.scope reader.now)
         (λ text. both (λ t right. tail.Assign t.pos (spec.assign_operator t.kind) right) (any spec.ASSIGN_OPERATORS) (expressions.values text place)) tokens.old) result tokens.new }
@@ -112,7 +106,7 @@ fn operated<R: Reader>(reader: &R, tokens: &mut Cursor<'_>, place: Place) -> Res
         TokenKind::ShiftRightAssign,
         TokenKind::AndNotAssign,
     ])?;
-    let right = values(reader, tokens, place)?;
+    let right = reader.values(tokens, place)?;
     Ok(Tail::Assign {
         pos: token.pos,
         operator: assign_operator(token.kind),
@@ -122,7 +116,11 @@ fn operated<R: Reader>(reader: &R, tokens: &mut Cursor<'_>, place: Place) -> Res
 
 // An operator that assigns, and what stands behind it.
 #[tactic(auto, unfolding(gno_reader::proofs::Shown::reading, gno_rules::specs::Statements::assign_tail))]
-fn assign_tail<R: Reader>(reader: &R, tokens: &mut Cursor<'_>, place: Kind) -> Result<Tail, Failure>
+fn assign_tail<R: ListReader>(
+    reader: &R,
+    tokens: &mut Cursor<'_>,
+    place: Kind,
+) -> Result<Tail, Failure>
     requires { R.nests reader.now }
     ensures { Gives (reads (R.scope reader.now) (λ text. spec.assign_tail text place) tokens.old) result tokens.new }
 {
@@ -135,12 +133,12 @@ fn assign_tail<R: Reader>(reader: &R, tokens: &mut Cursor<'_>, place: Kind) -> R
 
 // `:= values`
 #[tactic(auto, unfolding(gno_reader::proofs::Shown::reading))]
-fn define<R: Reader>(reader: &R, tokens: &mut Cursor<'_>, place: Place) -> Result<Tail, Failure>
+fn define<R: ListReader>(reader: &R, tokens: &mut Cursor<'_>, place: Place) -> Result<Tail, Failure>
     requires { R.nests reader.now }
     ensures { Gives (reads (R.scope reader.now) (λ text. both (λ t values. tail.Define t.pos values) (a k.Define) (expressions.values text place)) tokens.old) result tokens.new }
 {
     let token = tokens.expect(TokenKind::Define)?;
-    let values = values(reader, tokens, place)?;
+    let values = reader.values(tokens, place)?;
     Ok(Tail::Define {
         pos: token.pos,
         values,
@@ -149,7 +147,7 @@ fn define<R: Reader>(reader: &R, tokens: &mut Cursor<'_>, place: Place) -> Resul
 
 // `:= values`, `:= range expression`
 #[tactic(auto, unfolding(gno_reader::proofs::Shown::reading, gno_rules::specs::Statements::define_tail, gno_rules::specs::Statements::range_of))]
-fn define_or_range<R: Reader>(reader: &R, tokens: &mut Cursor<'_>) -> Result<Tail, Failure>
+fn define_or_range<R: ListReader>(reader: &R, tokens: &mut Cursor<'_>) -> Result<Tail, Failure>
     requires { R.nests reader.now }
     ensures { Gives (reads (R.scope reader.now) (λ text. spec.define_tail text kind.For) tokens.old) result tokens.new }
 {
@@ -159,7 +157,7 @@ fn define_or_range<R: Reader>(reader: &R, tokens: &mut Cursor<'_>) -> Result<Tai
             of: range_of(reader, tokens)?,
         });
     }
-    let values = values(reader, tokens, Place::Header)?;
+    let values = reader.values(tokens, Place::Header)?;
     Ok(Tail::Define {
         pos: token.pos,
         values,
@@ -168,7 +166,11 @@ fn define_or_range<R: Reader>(reader: &R, tokens: &mut Cursor<'_>) -> Result<Tai
 
 // `:=`, and what stands behind it behind several names.
 #[tactic(auto, unfolding(gno_reader::proofs::Shown::reading, gno_rules::specs::Statements::define_tail))]
-fn define_tail<R: Reader>(reader: &R, tokens: &mut Cursor<'_>, place: Kind) -> Result<Tail, Failure>
+fn define_tail<R: ListReader>(
+    reader: &R,
+    tokens: &mut Cursor<'_>,
+    place: Kind,
+) -> Result<Tail, Failure>
     requires { R.nests reader.now }
     ensures { Gives (reads (R.scope reader.now) (λ text. spec.define_tail text place) tokens.old) result tokens.new }
 {
@@ -181,18 +183,22 @@ fn define_tail<R: Reader>(reader: &R, tokens: &mut Cursor<'_>, place: Kind) -> R
 
 // `:= values`, `:= operand.(type)`
 #[tactic(auto, unfolding(gno_reader::proofs::Shown::reading, gno_rules::specs::Statements::define_one))]
-fn define_or_guard<R: Reader>(reader: &R, tokens: &mut Cursor<'_>) -> Result<Tail, Failure>
+fn define_or_guard<R: ListReader>(reader: &R, tokens: &mut Cursor<'_>) -> Result<Tail, Failure>
     requires { R.nests reader.now }
     ensures { Gives (reads (R.scope reader.now) (λ text. spec.define_one text kind.Switch) tokens.old) result tokens.new }
 {
     let token = tokens.expect(TokenKind::Define)?;
-    let values = exprs(reader, tokens, Place::Guard)?;
+    let values = reader.exprs(tokens, Place::Guard)?;
     Ok(defined(reader.alloc(), values, token.pos)?)
 }
 
 // `:=`, and what stands behind it behind one name.
 #[tactic(auto, unfolding(gno_reader::proofs::Shown::reading, gno_rules::specs::Statements::define_one))]
-fn define_one<R: Reader>(reader: &R, tokens: &mut Cursor<'_>, place: Kind) -> Result<Tail, Failure>
+fn define_one<R: ListReader>(
+    reader: &R,
+    tokens: &mut Cursor<'_>,
+    place: Kind,
+) -> Result<Tail, Failure>
     requires { R.nests reader.now }
     ensures { Gives (reads (R.scope reader.now) (λ text. spec.define_one text place) tokens.old) result tokens.new }
 {
@@ -224,7 +230,11 @@ fn step_tail<R: Reader>(reader: &R, tokens: &mut Cursor<'_>) -> Result<Tail, Fai
 
 // What stands behind one name.
 #[tactic(auto, unfolding(gno_reader::proofs::Shown::reading, gno_rules::specs::Statements::simple_tail, gno_rules::specs::Statements::step_tail, gno_rules::specs::Statements::assign_tail), using(crate::proofs::Firsts::first_define_one))]
-fn behind_name<R: Reader>(reader: &R, tokens: &mut Cursor<'_>, place: Kind) -> Result<Tail, Failure>
+fn behind_name<R: ListReader>(
+    reader: &R,
+    tokens: &mut Cursor<'_>,
+    place: Kind,
+) -> Result<Tail, Failure>
     requires { R.nests reader.now }
     ensures { Gives (reads (R.scope reader.now) (λ text. spec.simple_tail text place spec.one_name) tokens.old) result tokens.new }
 {
@@ -242,7 +252,11 @@ fn behind_name<R: Reader>(reader: &R, tokens: &mut Cursor<'_>, place: Kind) -> R
 
 // What stands behind an expression that is no name.
 #[tactic(auto, unfolding(gno_reader::proofs::Shown::reading, gno_rules::specs::Statements::simple_tail, gno_rules::specs::Statements::step_tail, gno_rules::specs::Statements::assign_tail))]
-fn behind_expr<R: Reader>(reader: &R, tokens: &mut Cursor<'_>, place: Kind) -> Result<Tail, Failure>
+fn behind_expr<R: ListReader>(
+    reader: &R,
+    tokens: &mut Cursor<'_>,
+    place: Kind,
+) -> Result<Tail, Failure>
     requires { R.nests reader.now }
     ensures { Gives (reads (R.scope reader.now) (λ text. spec.simple_tail text place spec.one_expr) tokens.old) result tokens.new }
 {
@@ -257,7 +271,7 @@ fn behind_expr<R: Reader>(reader: &R, tokens: &mut Cursor<'_>, place: Kind) -> R
 
 // What stands behind several names.
 #[tactic(auto, unfolding(gno_reader::proofs::Shown::reading, gno_rules::specs::Statements::simple_tail, gno_rules::specs::Statements::assign_tail))]
-fn behind_names<R: Reader>(
+fn behind_names<R: ListReader>(
     reader: &R,
     tokens: &mut Cursor<'_>,
     place: Kind,
@@ -273,7 +287,7 @@ fn behind_names<R: Reader>(
 
 /// What stands behind the expressions that a simple statement begins with.
 #[tactic(auto, unfolding(gno_reader::proofs::Shown::reading, gno_rules::specs::Statements::simple_tail))]
-pub fn simple_tail<R: Reader>(
+pub fn simple_tail<R: ListReader>(
     reader: &R,
     tokens: &mut Cursor<'_>,
     place: Kind,

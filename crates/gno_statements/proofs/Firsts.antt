@@ -10,8 +10,8 @@ use Rattle.gno_rules.specs.Statements.{keyword_statement, unlabeled, statement}
 use Rattle.gno_rules.specs.Table.{grammar}
 use Rattle.gno_rules.specs.declared.expression.Place.TheVariants.{Plain}
 use Rattle.gno_rules.specs.declared.statement.Read.TheVariants as read
-use Rattle.gno_rules.proofs.TypeEnds.{shown}
-use Rattle.gno_operands.proofs.Begins.{either_begins, same_begins}
+use Rattle.gno_rule_laws.proofs.TypeEnds.{shown}
+use Rattle.gno_reader.proofs.FirstKinds.{either_begins, same_begins}
 use Rattle.gno_statements.specs.Beginnings.{KEYWORD, STATEMENT}
 
 pub any_statement_begins : (ts : List Token) → begins code STATEMENT ts ≡ (begins code KEYWORD ts || begins code EXPRESSION ts)

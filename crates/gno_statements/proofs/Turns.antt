@@ -11,8 +11,8 @@ use Rattle.gno_reader.proofs.Turns.{takes}
 use Rattle.gno_rules.specs.Parts.{a, past}
 use Rattle.gno_rules.specs.Statements.{unlabeled, next_statement, one_case}
 use Rattle.gno_rules.specs.declared.statement.Read.{Read}
-use Rattle.gno_rules.proofs.StatementsSound.{sound_block, sound_switch_body}
-use Rattle.gno_rules.proofs.TypeEnds.{shown}
+use Rattle.gno_rule_laws.proofs.StatementsSound.{sound_block, sound_switch_body}
+use Rattle.gno_rule_laws.proofs.TypeEnds.{shown}
 
 pub takes_next_statement : (scope : Scope) (ts : List Token) (v : Token × Option Statement) (rest : List Token) → reads scope next_statement ts ≡ got v rest → length rest < length ts
 unfolding shown

@@ -11,14 +11,14 @@ use crate::begins::begins_statement;
 use crate::labeled::statement;
 use crate::list_value::{all_statements, done_with};
 use gno_base::List;
-use gno_reader::{Cursor, Failure, Reader};
+use gno_reader::{Cursor, Failure, SimpleReader};
 use gno_rules::Statements;
 use gno_scan::TokenKind;
 use gno_tree::{Block, Statement};
 
 // A statement, or nothing.
 #[tactic(auto, unfolding(gno_reader::proofs::Shown::reading), using(crate::proofs::Firsts::statement_begins))]
-fn perhaps_statement<R: Reader>(
+fn perhaps_statement<R: SimpleReader>(
     reader: &R,
     tokens: &mut Cursor<'_>,
 ) -> Result<Option<Statement>, Failure>
@@ -33,7 +33,7 @@ fn perhaps_statement<R: Reader>(
 
 // The statements with one more, or with a `;` alone.
 #[tactic(auto, unfolding(gno_reader::proofs::Shown::reading, gno_rules::specs::Statements::next_statement))]
-fn next_statement<R: Reader>(
+fn next_statement<R: SimpleReader>(
     reader: &R,
     tokens: &mut Cursor<'_>,
     list: Statements,
@@ -49,7 +49,10 @@ fn next_statement<R: Reader>(
 
 // What stands before the first `;`.
 #[tactic(auto, unfolding(gno_reader::proofs::Shown::reading))]
-fn first_statement<R: Reader>(reader: &R, tokens: &mut Cursor<'_>) -> Result<Statements, Failure>
+fn first_statement<R: SimpleReader>(
+    reader: &R,
+    tokens: &mut Cursor<'_>,
+) -> Result<Statements, Failure>
     requires { R.nests reader.now }
     ensures { Gives (reads (R.scope reader.now) (λ text. to spec.first_statement (optional (spec.statement text))) tokens.old) result tokens.new }
 {
@@ -62,7 +65,10 @@ fn first_statement<R: Reader>(reader: &R, tokens: &mut Cursor<'_>) -> Result<Sta
 
 /// Any number of statements, with a `;` behind each but perhaps the last.
 #[tactic(auto, unfolding(gno_reader::proofs::Shown::reading, gno_rules::specs::Statements::statements))]
-pub fn statements<R: Reader>(reader: &R, tokens: &mut Cursor<'_>) -> Result<Statements, Failure>
+pub fn statements<R: SimpleReader>(
+    reader: &R,
+    tokens: &mut Cursor<'_>,
+) -> Result<Statements, Failure>
     requires { R.nests reader.now }
     ensures { Gives (reads (R.scope reader.now) spec.statements tokens.old) result tokens.new }
 {
@@ -75,7 +81,7 @@ pub fn statements<R: Reader>(reader: &R, tokens: &mut Cursor<'_>) -> Result<Stat
 
 /// `{ statements }`
 #[tactic(auto, unfolding(gno_reader::proofs::Shown::reading, gno_rules::specs::Statements::block))]
-pub fn block<R: Reader>(reader: &R, tokens: &mut Cursor<'_>) -> Result<Block, Failure>
+pub fn block<R: SimpleReader>(reader: &R, tokens: &mut Cursor<'_>) -> Result<Block, Failure>
     requires { R.nests reader.now }
     ensures { Gives (reads (R.scope reader.now) spec.block tokens.old) result tokens.new }
 {

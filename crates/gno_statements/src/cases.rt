@@ -12,21 +12,20 @@ ghost use Rattle.gno_scan.specs.declared.kind.TokenKind.TheVariants as k;
 use crate::blocks::statements;
 use crate::list_value::{all_statements, no_cases, with_case};
 use gno_base::List;
-use gno_expressions::values;
-use gno_reader::{Cursor, Failure, Reader};
+use gno_reader::{Cursor, Failure, ListReader, SimpleReader};
 use gno_rules::{Cases, Place};
 use gno_scan::{Pos, TokenKind};
 use gno_tree::{Case, Labels};
 
 // `case values`, `default`
 #[tactic(auto, unfolding(gno_reader::proofs::Shown::reading, gno_rules::specs::Statements::case_labels))]
-fn case_labels<R: Reader>(reader: &R, tokens: &mut Cursor<'_>) -> Result<(Pos, Labels), Failure>
+fn case_labels<R: ListReader>(reader: &R, tokens: &mut Cursor<'_>) -> Result<(Pos, Labels), Failure>
     requires { R.nests reader.now }
     ensures { Gives (reads (R.scope reader.now) spec.case_labels tokens.old) result tokens.new }
 {
     if tokens.sees(TokenKind::Case) {
         let token = tokens.expect(TokenKind::Case)?;
-        let values = values(reader, tokens, Place::Plain)?;
+        let values = reader.values(tokens, Place::Plain)?;
         return Ok((token.pos, Labels::Exprs(values)));
     }
     let token = tokens.expect(TokenKind::Default)?;
@@ -35,7 +34,7 @@ fn case_labels<R: Reader>(reader: &R, tokens: &mut Cursor<'_>) -> Result<(Pos, L
 
 // `case values:`, `default:`
 #[tactic(auto, unfolding(gno_reader::proofs::Shown::reading))]
-fn case_head<R: Reader>(reader: &R, tokens: &mut Cursor<'_>) -> Result<(Pos, Labels), Failure>
+fn case_head<R: ListReader>(reader: &R, tokens: &mut Cursor<'_>) -> Result<(Pos, Labels), Failure>
     requires { R.nests reader.now }
     ensures { Gives (reads (R.scope reader.now) (λ text. up_to (spec.case_labels text) (a k.Colon)) tokens.old) result tokens.new }
 {
@@ -46,7 +45,7 @@ fn case_head<R: Reader>(reader: &R, tokens: &mut Cursor<'_>) -> Result<(Pos, Lab
 
 // `case values: statements`, `default: statements`, and whether a statement stands last that no `;` ends.
 #[tactic(auto, unfolding(gno_reader::proofs::Shown::reading, gno_rules::specs::Statements::one_case))]
-fn one_case<R: Reader>(reader: &R, tokens: &mut Cursor<'_>) -> Result<(Case, bool), Failure>
+fn one_case<R: SimpleReader>(reader: &R, tokens: &mut Cursor<'_>) -> Result<(Case, bool), Failure>
     requires { R.nests reader.now }
     ensures { Gives (reads (R.scope reader.now) spec.one_case tokens.old) result tokens.new }
 {
@@ -66,7 +65,11 @@ fn one_case<R: Reader>(reader: &R, tokens: &mut Cursor<'_>) -> Result<(Case, boo
 
 // The cases with one more.
 #[tactic(auto, unfolding(gno_reader::proofs::Shown::reading))]
-fn next_case<R: Reader>(reader: &R, tokens: &mut Cursor<'_>, cases: Cases) -> Result<Cases, Failure>
+fn next_case<R: SimpleReader>(
+    reader: &R,
+    tokens: &mut Cursor<'_>,
+    cases: Cases,
+) -> Result<Cases, Failure>
     requires { R.nests reader.now }
     ensures { Gives (map (spec.with_case cases) (reads (R.scope reader.now) spec.one_case) tokens.old) result tokens.new }
 {
@@ -84,7 +87,7 @@ fn goes_on(cases: &Cases, tokens: &Cursor<'_>) -> bool
 
 // Any number of cases.
 #[tactic(auto, unfolding(gno_reader::proofs::Shown::reading, gno_rules::specs::Statements::cases))]
-fn cases<R: Reader>(reader: &R, tokens: &mut Cursor<'_>) -> Result<Cases, Failure>
+fn cases<R: SimpleReader>(reader: &R, tokens: &mut Cursor<'_>) -> Result<Cases, Failure>
     requires { R.nests reader.now }
     ensures { Gives (reads (R.scope reader.now) spec.cases tokens.old) result tokens.new }
 {
@@ -97,7 +100,10 @@ fn cases<R: Reader>(reader: &R, tokens: &mut Cursor<'_>) -> Result<Cases, Failur
 
 /// `{ cases }`
 #[tactic(auto, unfolding(gno_reader::proofs::Shown::reading, gno_rules::specs::Statements::switch_body))]
-pub fn switch_body<R: Reader>(reader: &R, tokens: &mut Cursor<'_>) -> Result<List<Case>, Failure>
+pub fn switch_body<R: SimpleReader>(
+    reader: &R,
+    tokens: &mut Cursor<'_>,
+) -> Result<List<Case>, Failure>
     requires { R.nests reader.now }
     ensures { Gives (reads (R.scope reader.now) spec.switch_body tokens.old) result tokens.new }
 {

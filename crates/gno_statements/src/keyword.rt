@@ -10,10 +10,12 @@ ghost use Rattle.gno_rules.specs.declared.expression.Place.TheVariants.{Plain};
 
 use gno_base::List;
 use gno_declarations::{begins_declaration, declaration};
-use gno_expressions::{plain_expr, values};
-use gno_headers::{for_statement, if_statement};
-use gno_operands::begins_expr;
-use gno_reader::{Cursor, Failure, Reader, construct, name};
+use gno_ifs::if_statement;
+use gno_loops::for_statement;
+use gno_reader::phrase::plain_expr;
+use gno_reader::{
+    Cursor, ExprReader, Failure, ListReader, Reader, SimpleReader, begins_expr, construct, name,
+};
 use gno_rules::Place;
 use gno_scan::TokenKind;
 use gno_switches::switch_statement;
@@ -21,19 +23,22 @@ use gno_tree::{Expr, Name, Statement};
 
 // Values, or nothing.
 #[tactic(auto, unfolding(gno_reader::proofs::Shown::reading), using(crate::proofs::Firsts::values_begins))]
-fn returned<R: Reader>(reader: &R, tokens: &mut Cursor<'_>) -> Result<List<Expr>, Failure>
+fn returned<R: ListReader>(reader: &R, tokens: &mut Cursor<'_>) -> Result<List<Expr>, Failure>
     requires { R.nests reader.now }
     ensures { Gives (reads (R.scope reader.now) (λ text. either (expressions.values text Plain) (nothing [])) tokens.old) result tokens.new }
 {
     if begins_expr(tokens) {
-        return values(reader, tokens, Place::Plain);
+        return reader.values(tokens, Place::Plain);
     }
     Ok(List::new(reader.alloc()))
 }
 
 // `return values`
 #[tactic(auto, unfolding(gno_reader::proofs::Shown::reading, gno_rules::specs::Statements::return_statement))]
-fn return_statement<R: Reader>(reader: &R, tokens: &mut Cursor<'_>) -> Result<Statement, Failure>
+fn return_statement<R: ListReader>(
+    reader: &R,
+    tokens: &mut Cursor<'_>,
+) -> Result<Statement, Failure>
     requires { R.nests reader.now }
     ensures { Gives (reads (R.scope reader.now) spec.return_statement tokens.old) result tokens.new }
 {
@@ -96,7 +101,7 @@ fn fallthrough_statement<R: Reader>(
 
 // `defer call`
 #[tactic(auto, unfolding(gno_reader::proofs::Shown::reading, gno_rules::specs::Statements::defer_statement))]
-fn defer_statement<R: Reader>(reader: &R, tokens: &mut Cursor<'_>) -> Result<Statement, Failure>
+fn defer_statement<R: ExprReader>(reader: &R, tokens: &mut Cursor<'_>) -> Result<Statement, Failure>
     requires { R.nests reader.now }
     ensures { Gives (reads (R.scope reader.now) spec.defer_statement tokens.old) result tokens.new }
 {
@@ -110,7 +115,7 @@ fn defer_statement<R: Reader>(reader: &R, tokens: &mut Cursor<'_>) -> Result<Sta
 
 // `return`, `break`, `continue`, `fallthrough`, `defer`
 #[tactic(auto, unfolding(gno_reader::proofs::Shown::reading, gno_rules::specs::Statements::return_statement, gno_rules::specs::Statements::break_statement, gno_rules::specs::Statements::continue_statement, gno_rules::specs::Statements::fallthrough_statement))]
-fn jump_or_defer<R: Reader>(reader: &R, tokens: &mut Cursor<'_>) -> Result<Statement, Failure>
+fn jump_or_defer<R: ListReader>(reader: &R, tokens: &mut Cursor<'_>) -> Result<Statement, Failure>
     requires { R.nests reader.now }
     ensures { Gives (reads (R.scope reader.now)
         (λ text. either (spec.return_statement text) (either (spec.break_statement text) (either (spec.continue_statement text) (either (spec.fallthrough_statement text) (spec.defer_statement text))))) tokens.old) result tokens.new }
@@ -132,7 +137,7 @@ fn jump_or_defer<R: Reader>(reader: &R, tokens: &mut Cursor<'_>) -> Result<State
 
 /// A statement that begins with a keyword, or with `{`.
 #[tactic(auto, unfolding(gno_reader::proofs::Shown::reading, gno_rules::specs::Declarations::declaration, gno_rules::specs::Declarations::const_declaration, gno_rules::specs::Declarations::type_declaration, gno_rules::specs::Declarations::var_declaration, gno_rules::specs::Statements::keyword_statement, gno_rules::specs::Statements::if_statement, gno_rules::specs::Statements::if_arms, gno_rules::specs::Statements::if_arm, gno_rules::specs::Statements::switch_statement, gno_rules::specs::Statements::for_statement))]
-pub fn keyword_statement<R: Reader>(
+pub fn keyword_statement<R: SimpleReader>(
     reader: &R,
     tokens: &mut Cursor<'_>,
 ) -> Result<Statement, Failure>

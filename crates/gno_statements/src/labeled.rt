@@ -14,28 +14,30 @@ use crate::begins::{begins_keyword_statement, begins_statement};
 use crate::keyword::keyword_statement;
 use crate::list_value::{labeled_statement, labels_with, may_be_label, simple_statement};
 use gno_base::List;
-use gno_reader::{Cursor, Failure, Reader};
+use gno_reader::{Cursor, Failure, SimpleReader};
 use gno_rules::{Kind, Labeled, Read};
 use gno_scan::TokenKind;
-use gno_simple::simple_statements;
 use gno_tree::Statement;
 
 // A statement without a label.
 #[tactic(auto, unfolding(gno_reader::proofs::Shown::reading, gno_rules::specs::Statements::unlabeled), using(crate::proofs::Firsts::keyword_statement_begins))]
-fn unlabeled<R: Reader>(reader: &R, tokens: &mut Cursor<'_>) -> Result<Read, Failure>
+fn unlabeled<R: SimpleReader>(reader: &R, tokens: &mut Cursor<'_>) -> Result<Read, Failure>
     requires { R.nests reader.now }
     ensures { Gives (reads (R.scope reader.now) spec.unlabeled tokens.old) result tokens.new }
 {
     if begins_keyword_statement(tokens) {
         return Ok(Read::Statement(keyword_statement(reader, tokens)?));
     }
-    let read = simple_statements(reader, tokens, Kind::Body)?;
+    let read = reader.simple_statements(tokens, Kind::Body)?;
     Ok(simple_statement(read))
 }
 
 // `:`, and a statement if one stands there.
 #[tactic(auto, unfolding(gno_reader::proofs::Shown::reading), using(crate::proofs::Firsts::unlabeled_begins))]
-fn behind_colon<R: Reader>(reader: &R, tokens: &mut Cursor<'_>) -> Result<Option<Read>, Failure>
+fn behind_colon<R: SimpleReader>(
+    reader: &R,
+    tokens: &mut Cursor<'_>,
+) -> Result<Option<Read>, Failure>
     requires { R.nests reader.now }
     ensures { Gives (reads (R.scope reader.now) (λ text. past (a k.Colon) (optional (spec.unlabeled text))) tokens.old) result tokens.new }
 {
@@ -48,7 +50,7 @@ fn behind_colon<R: Reader>(reader: &R, tokens: &mut Cursor<'_>) -> Result<Option
 
 // The labels with one more, and what stands behind it.
 #[tactic(auto, unfolding(gno_reader::proofs::Shown::reading))]
-fn next_label<R: Reader>(
+fn next_label<R: SimpleReader>(
     reader: &R,
     tokens: &mut Cursor<'_>,
     labeled: Labeled,
@@ -71,7 +73,7 @@ fn goes_on(labeled: &Labeled, tokens: &Cursor<'_>) -> bool
 
 // A statement, before a label is seen.
 #[tactic(auto, unfolding(gno_reader::proofs::Shown::reading))]
-fn no_labels<R: Reader>(reader: &R, tokens: &mut Cursor<'_>) -> Result<Labeled, Failure>
+fn no_labels<R: SimpleReader>(reader: &R, tokens: &mut Cursor<'_>) -> Result<Labeled, Failure>
     requires { R.nests reader.now }
     ensures { Gives (reads (R.scope reader.now) (λ text. to spec.no_labels (spec.unlabeled text)) tokens.old) result tokens.new }
 {
@@ -84,7 +86,7 @@ fn no_labels<R: Reader>(reader: &R, tokens: &mut Cursor<'_>) -> Result<Labeled, 
 
 // Any number of labels, and the statement behind them.
 #[tactic(auto, unfolding(gno_reader::proofs::Shown::reading, gno_rules::specs::Statements::labeled))]
-fn labeled<R: Reader>(reader: &R, tokens: &mut Cursor<'_>) -> Result<Labeled, Failure>
+fn labeled<R: SimpleReader>(reader: &R, tokens: &mut Cursor<'_>) -> Result<Labeled, Failure>
     requires { R.nests reader.now }
     ensures { Gives (reads (R.scope reader.now) spec.labeled tokens.old) result tokens.new }
 {
@@ -97,7 +99,7 @@ fn labeled<R: Reader>(reader: &R, tokens: &mut Cursor<'_>) -> Result<Labeled, Fa
 
 /// A statement.
 #[tactic(auto, unfolding(gno_reader::proofs::Shown::reading, gno_rules::specs::Statements::statement))]
-pub fn statement<R: Reader>(reader: &R, tokens: &mut Cursor<'_>) -> Result<Statement, Failure>
+pub fn statement<R: SimpleReader>(reader: &R, tokens: &mut Cursor<'_>) -> Result<Statement, Failure>
     requires { R.nests reader.now }
     ensures { Gives (reads (R.scope reader.now) spec.statement tokens.old) result tokens.new }
 {

@@ -7,8 +7,8 @@ use Rattle.gno_rules.specs.Kinds.{numbers, code}
 use Rattle.gno_rules.specs.Shapes.{EXPRESSION}
 use Rattle.gno_rules.specs.Statements.{tag, switch_head}
 use Rattle.gno_rules.specs.Table.{grammar}
-use Rattle.gno_rules.proofs.TypeEnds.{shown}
-use Rattle.gno_operands.proofs.Begins.{either_begins, same_begins}
+use Rattle.gno_rule_laws.proofs.TypeEnds.{shown}
+use Rattle.gno_reader.proofs.FirstKinds.{either_begins, same_begins}
 use Rattle.gno_switches.specs.Beginnings.{SWITCH_HEADER}
 
 pub switch_header_begins : (ts : List Token) → begins code SWITCH_HEADER ts ≡ (begins code (numbers (k.Semicolon ∷ [])) ts || begins code EXPRESSION ts)

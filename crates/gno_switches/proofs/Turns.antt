@@ -14,8 +14,8 @@ use Rattle.gno_rules.specs.Expressions.{suffix}
 use Rattle.gno_rules.specs.declared.expression.Place.TheVariants.{Guard}
 use Rattle.gno_rules.specs.declared.expression.Shape.{Shape}
 use Rattle.gno_rules.specs.declared.expression.Suffix.{Suffix}
-use Rattle.gno_rules.proofs.OperandsSound.{sound_suffix}
-use Rattle.gno_rules.proofs.TypeEnds.{shown}
+use Rattle.gno_rule_laws.proofs.OperandsSound.{sound_suffix}
+use Rattle.gno_rule_laws.proofs.TypeEnds.{shown}
 
 pub takes_suffix : (scope : Scope) (shape : Shape) (ts : List Token) (v : Suffix) (rest : List Token) → reads scope (λ text. suffix text Guard shape) ts ≡ got v rest → length rest < length ts
 unfolding shown

@@ -4,8 +4,7 @@ ghost use Rattle.gno_grammar.specs.Readers.{begins};
 ghost use Rattle.gno_rules.specs.Kinds.{code};
 ghost use Rattle.gno_switches.specs.Beginnings.{SWITCH_HEADER};
 
-use gno_operands::begins_expr;
-use gno_reader::Cursor;
+use gno_reader::{Cursor, begins_expr};
 use gno_scan::TokenKind;
 
 /// The header of a `switch`.

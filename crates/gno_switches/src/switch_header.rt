@@ -16,12 +16,10 @@ ghost use Rattle.gno_tree.specs.declared.statement.Subject.TheVariants as subjec
 
 use crate::begins::begins_switch_header;
 use crate::header_value::{subject_of, tag_of};
-use gno_expressions::expr;
-use gno_operands::{begins_expr, operand_alone, suffix};
-use gno_reader::{Cursor, Failure, Reader};
+use gno_operands::{operand_alone, suffix};
+use gno_reader::{Cursor, ExprReader, Failure, Reader, SimpleReader, begins_expr};
 use gno_rules::{Found, Kind, Operand, Place, SimpleRead, SwitchHeader, Tag};
 use gno_scan::TokenKind;
-use gno_simple::simple_statements;
 use gno_tree::{Expr, Guard, Name, Simple, Subject};
 
 // Whether `.(type)` has still to come.
@@ -102,17 +100,20 @@ fn behind_tag<R: Reader>(reader: &R, tokens: &mut Cursor<'_>, found: Found) -> R
 
 // An expression, or a guard.
 #[tactic(auto, unfolding(gno_reader::proofs::Shown::reading, gno_rules::specs::Statements::tag))]
-fn tag<R: Reader>(reader: &R, tokens: &mut Cursor<'_>) -> Result<Tag, Failure>
+fn tag<R: ExprReader>(reader: &R, tokens: &mut Cursor<'_>) -> Result<Tag, Failure>
     requires { R.nests reader.now }
     ensures { Gives (reads (R.scope reader.now) spec.tag tokens.old) result tokens.new }
 {
-    let found = expr(reader, tokens, Place::Guard)?;
+    let found = reader.expr(tokens, Place::Guard)?;
     behind_tag(reader, tokens, found)
 }
 
 // `;`, and an expression or a guard if one stands there.
 #[tactic(auto, unfolding(gno_reader::proofs::Shown::reading), using(crate::proofs::Firsts::tag_begins))]
-fn behind_semicolon<R: Reader>(reader: &R, tokens: &mut Cursor<'_>) -> Result<Option<Tag>, Failure>
+fn behind_semicolon<R: ExprReader>(
+    reader: &R,
+    tokens: &mut Cursor<'_>,
+) -> Result<Option<Tag>, Failure>
     requires { R.nests reader.now }
     ensures { Gives (reads (R.scope reader.now) (λ text. past (a k.Semicolon) (optional (spec.tag text))) tokens.old) result tokens.new }
 {
@@ -125,7 +126,7 @@ fn behind_semicolon<R: Reader>(reader: &R, tokens: &mut Cursor<'_>) -> Result<Op
 
 // `;` and what stands behind it, behind a statement or nothing.
 #[tactic(auto, unfolding(gno_reader::proofs::Shown::reading, gno_rules::specs::Statements::tag_behind))]
-fn tag_behind<R: Reader>(
+fn tag_behind<R: ExprReader>(
     reader: &R,
     tokens: &mut Cursor<'_>,
     before: Option<Simple>,
@@ -142,7 +143,7 @@ fn tag_behind<R: Reader>(
 
 // `;` and what stands behind it, behind an expression, or nothing: then the expression is what the `switch` chooses by.
 #[tactic(auto, unfolding(gno_reader::proofs::Shown::reading, gno_rules::specs::Statements::tag_behind))]
-fn behind_expr<R: Reader>(
+fn behind_expr<R: ExprReader>(
     reader: &R,
     tokens: &mut Cursor<'_>,
     expr: Expr,
@@ -162,7 +163,7 @@ fn behind_expr<R: Reader>(
 
 // What stands behind what may be a simple statement.
 #[tactic(auto, unfolding(gno_reader::proofs::Shown::reading, gno_rules::specs::Statements::behind_switch))]
-fn behind_switch<R: Reader>(
+fn behind_switch<R: ExprReader>(
     reader: &R,
     tokens: &mut Cursor<'_>,
     read: SimpleRead,
@@ -184,20 +185,23 @@ fn behind_switch<R: Reader>(
 
 // `subject`, `before; subject`, `; subject`, where the subject may be left out behind the `;`.
 #[tactic(auto, unfolding(gno_reader::proofs::Shown::reading, gno_rules::specs::Statements::switch_head, gno_rules::specs::Statements::tag_behind))]
-fn switch_head<R: Reader>(reader: &R, tokens: &mut Cursor<'_>) -> Result<SwitchHeader, Failure>
+fn switch_head<R: SimpleReader>(
+    reader: &R,
+    tokens: &mut Cursor<'_>,
+) -> Result<SwitchHeader, Failure>
     requires { R.nests reader.now }
     ensures { Gives (reads (R.scope reader.now) spec.switch_head tokens.old) result tokens.new }
 {
     if tokens.sees(TokenKind::Semicolon) {
         return tag_behind(reader, tokens, None);
     }
-    let read = simple_statements(reader, tokens, Kind::Switch)?;
+    let read = reader.simple_statements(tokens, Kind::Switch)?;
     behind_switch(reader, tokens, read)
 }
 
 /// The header of a `switch`, which may be left out.
 #[tactic(auto, unfolding(gno_reader::proofs::Shown::reading), using(crate::proofs::Firsts::switch_head_begins))]
-pub fn switch_header<R: Reader>(
+pub fn switch_header<R: SimpleReader>(
     reader: &R,
     tokens: &mut Cursor<'_>,
 ) -> Result<SwitchHeader, Failure>

@@ -5,14 +5,14 @@ ghost use Rattle.gno_reader.specs.Scope.{reads};
 ghost use Rattle.gno_rules.specs.Statements as spec;
 
 use crate::switch_header::switch_header;
-use gno_reader::{Cursor, Failure, Reader, construct};
+use gno_reader::{Cursor, Failure, SimpleReader, construct};
 use gno_rules::SwitchHeader;
 use gno_scan::TokenKind;
 use gno_tree::{Statement, Switch};
 
 /// `switch header { cases }`
 #[tactic(auto, unfolding(gno_reader::proofs::Shown::reading, gno_rules::specs::Statements::switch_statement))]
-pub fn switch_statement<R: Reader>(
+pub fn switch_statement<R: SimpleReader>(
     reader: &R,
     tokens: &mut Cursor<'_>,
 ) -> Result<Statement, Failure>

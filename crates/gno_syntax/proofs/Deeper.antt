@@ -5,12 +5,12 @@ use Rattle.gno_grammar.specs.Answers.{closed}
 use Rattle.gno_grammar.specs.Readers.{Outcome, got, refused, level, why}
 use Rattle.gno_grammar.specs.declared.refusal.Refusal.{Refusal}
 use Rattle.gno_reader.specs.Answers.{Ends, Fails, refusal}
-use Rattle.gno_reader.specs.Nests.{GivesConstruct, construct_of}
+use Rattle.gno_reader.specs.Constructs.{GivesConstruct, construct_of}
 use Rattle.gno_reader.specs.Scope.{Scope, reads}
 use Rattle.gno_reader.specs.declared.cursor.Failure.{Failure}
 use Rattle.gno_reader.specs.declared.reader.Construct.{Construct}
 use Rattle.gno_reader.specs.declared.cursor.Failure.TheVariants.{Refused}
-use Rattle.gno_rules.proofs.Sound.{file_answers}
+use Rattle.gno_rule_laws.proofs.Sound.{file_answers}
 use Rattle.gno_rules.specs.Declarations.{file}
 use Rattle.gno_rules.specs.Files.{IsOutcome, MOST_NESTED}
 use Rattle.gno_rules.specs.Parts.{gives}

@@ -1,16 +1,17 @@
 // The constructs that nest.
 ghost use Rattle.std.specs.Prelude.{◌≡◌};
 ghost use Rattle.gno_grammar.specs.Readers.{begins, level};
-ghost use Rattle.gno_reader.specs.Nests.{GivesConstruct};
+ghost use Rattle.gno_reader.specs.Constructs.{GivesConstruct};
 ghost use Rattle.gno_reader.specs.Scope.{reads};
 ghost use Rattle.gno_rules.specs.Kinds.{code};
 ghost use Rattle.gno_rules.specs.Table.{first_of, grammar, rule as rule_of};
 
+use crate::level::Level;
 use gno_declarations::{function, header_function};
-use gno_expressions::{arguments, elements, index, paren, unary};
+use gno_expr_lists::{arguments, elements, index, paren};
+use gno_expressions::unary;
 use gno_grammar::Refusal;
-use gno_operands::begins_expr;
-use gno_reader::{Construct, Cursor, Failure, Level, Reader};
+use gno_reader::{Construct, Cursor, Failure, SimpleReader, begins_expr};
 use gno_rules::{Place, Rule};
 use gno_scan::TokenKind;
 use gno_statements::{block, switch_body};
@@ -44,7 +45,11 @@ pub fn construct(
 }
 
 /// Reads what a construct is made of.
-fn read<R: Reader>(reader: &R, tokens: &mut Cursor<'_>, rule: Rule) -> Result<Construct, Failure>
+fn read<R: SimpleReader>(
+    reader: &R,
+    tokens: &mut Cursor<'_>,
+    rule: Rule,
+) -> Result<Construct, Failure>
     requires { R.nests reader.now }
     ensures { GivesConstruct rule (reads (R.scope reader.now) (λ text. rule_of text rule) tokens.old) result tokens.new }
 {

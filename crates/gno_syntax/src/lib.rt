@@ -3,6 +3,7 @@
 
 mod construct;
 mod fault;
+mod level;
 mod parse;
 
 pub use fault::SyntaxFault;

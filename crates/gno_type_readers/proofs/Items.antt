@@ -7,8 +7,8 @@ use Rattle.gno_reader.proofs.Turns.{takes}
 use Rattle.gno_rules.specs.Parts.{name, dotted}
 use Rattle.gno_rules.specs.Types.{field, member}
 use Rattle.gno_rules.specs.Table.{grammar}
-use Rattle.gno_rules.proofs.SignaturesSound.{sound_signature}
-use Rattle.gno_rules.proofs.TypeEnds.{shown_sets, shown_parts, shown_signatures, shown_types}
+use Rattle.gno_rule_laws.proofs.SignaturesSound.{sound_signature}
+use Rattle.gno_rule_laws.proofs.TypeEnds.{shown_sets, shown_parts, shown_signatures, shown_types}
 use Rattle.gno_scan.specs.declared.token.Token.{Token}
 use Rattle.gno_tree.specs.declared.type_expr.Field.{Field}
 use Rattle.gno_tree.specs.declared.type_expr.Member.{Member}

@@ -7,11 +7,9 @@ ghost use Rattle.gno_rules.specs.Types as spec;
 use crate::field::structure;
 use crate::member::interface;
 use gno_base::Boxed;
-use gno_expressions::expr;
-use gno_reader::{Cursor, Failure, Reader, construct};
+use gno_reader::{Cursor, ExprReader, Failure, Reader, construct};
 use gno_rules::{Length, Place, SignatureRead, TypeRead};
 use gno_scan::{Pos, TokenKind};
-use gno_signatures::signature;
 use gno_tree::{ArrayLength, TypeExpr};
 use std::alloc::{AllocError, Global};
 
@@ -32,7 +30,7 @@ pub fn pointer<R: Reader>(reader: &R, tokens: &mut Cursor<'_>) -> Result<TypeRea
 
 /// `]`, `length]`
 #[tactic(auto, unfolding(gno_reader::proofs::Shown::reading, gno_rules::specs::Types::length))]
-pub fn length<R: Reader>(reader: &R, tokens: &mut Cursor<'_>) -> Result<Length, Failure>
+pub fn length<R: ExprReader>(reader: &R, tokens: &mut Cursor<'_>) -> Result<Length, Failure>
     requires { R.nests reader.now }
     ensures { Gives (reads (R.scope reader.now) spec.length tokens.old) result tokens.new }
 {
@@ -40,14 +38,14 @@ pub fn length<R: Reader>(reader: &R, tokens: &mut Cursor<'_>) -> Result<Length, 
         tokens.expect(TokenKind::RightBracket)?;
         return Ok(Length::Nothing);
     }
-    let found = expr(reader, tokens, Place::Plain)?;
+    let found = reader.expr(tokens, Place::Plain)?;
     tokens.expect(TokenKind::RightBracket)?;
     Ok(Length::Expr(found.into_expr()))
 }
 
 /// `[]`, `[length]`, with the place of its `[`
 #[tactic(auto, unfolding(gno_reader::proofs::Shown::reading, gno_rules::specs::Types::bracket))]
-fn bracket<R: Reader>(reader: &R, tokens: &mut Cursor<'_>) -> Result<(Pos, Length), Failure>
+fn bracket<R: ExprReader>(reader: &R, tokens: &mut Cursor<'_>) -> Result<(Pos, Length), Failure>
     requires { R.nests reader.now }
     ensures { Gives (reads (R.scope reader.now) spec.bracket tokens.old) result tokens.new }
 {
@@ -86,7 +84,7 @@ pub fn of_length(
 
 /// `[]type`, `[length]type`
 #[tactic(auto, unfolding(gno_reader::proofs::Shown::reading, gno_rules::specs::Types::array))]
-fn array<R: Reader>(reader: &R, tokens: &mut Cursor<'_>) -> Result<TypeRead, Failure>
+fn array<R: ExprReader>(reader: &R, tokens: &mut Cursor<'_>) -> Result<TypeRead, Failure>
     requires { R.nests reader.now }
     ensures { Gives (reads (R.scope reader.now) spec.array tokens.old) result tokens.new }
 {
@@ -130,12 +128,12 @@ pub fn map<R: Reader>(reader: &R, tokens: &mut Cursor<'_>) -> Result<TypeRead, F
 
 /// `func(parameters) results`
 #[tactic(auto, unfolding(gno_reader::proofs::Shown::reading, gno_rules::specs::Types::function))]
-pub fn function<R: Reader>(reader: &R, tokens: &mut Cursor<'_>) -> Result<TypeRead, Failure>
+pub fn function<R: ExprReader>(reader: &R, tokens: &mut Cursor<'_>) -> Result<TypeRead, Failure>
     requires { R.nests reader.now }
     ensures { Gives (reads (R.scope reader.now) spec.function tokens.old) result tokens.new }
 {
     let token = tokens.expect(TokenKind::Func)?;
-    let SignatureRead { signature, end } = signature(reader, tokens)?;
+    let SignatureRead { signature, end } = reader.signature(tokens)?;
     let of = TypeExpr::Function {
         pos: token.pos,
         signature,
@@ -147,7 +145,7 @@ pub fn function<R: Reader>(reader: &R, tokens: &mut Cursor<'_>) -> Result<TypeRe
 
 /// A type that begins with neither a name nor a parenthesis.
 #[tactic(auto, unfolding(gno_reader::proofs::Shown::reading, gno_rules::specs::Types::built, gno_rules::specs::Types::pointer, gno_rules::specs::Types::array, gno_rules::specs::Types::bracket, gno_rules::specs::Types::map, gno_rules::specs::Types::map_key, gno_rules::specs::Types::function, crate::proofs::Shown::structure))]
-pub fn built<R: Reader>(reader: &R, tokens: &mut Cursor<'_>) -> Result<TypeRead, Failure>
+pub fn built<R: ExprReader>(reader: &R, tokens: &mut Cursor<'_>) -> Result<TypeRead, Failure>
     requires { R.nests reader.now }
     ensures { Gives (reads (R.scope reader.now) spec.built tokens.old) result tokens.new }
 {

@@ -16,11 +16,11 @@ use crate::left_out::left_out;
 use gno_base::List;
 use gno_grammar::LeftOut;
 use gno_reader::list::closed_list;
-use gno_reader::name::{dotted, name};
+use gno_reader::name::{dotted, further_names, name, one_name};
+use gno_reader::type_name::type_name;
 use gno_reader::{Cursor, Failure, Reader, construct};
 use gno_rules::{TypeEnd, TypeRead, qualified};
 use gno_scan::TokenKind;
-use gno_signatures::{further_names, one_name, type_name};
 use gno_tree::{Field, Name, TypeExpr};
 
 /// Fields of one type, behind the first name.

@@ -12,15 +12,14 @@ use gno_base::List;
 use gno_grammar::LeftOut;
 use gno_reader::list::closed_list;
 use gno_reader::name::{dotted, name};
-use gno_reader::{Cursor, Failure, Reader};
+use gno_reader::{Cursor, ExprReader, Failure};
 use gno_rules::{SignatureRead, TypeEnd, TypeRead, qualified};
 use gno_scan::TokenKind;
-use gno_signatures::signature;
 use gno_tree::{Member, Name, TypeExpr};
 
 /// What stands behind a name: a signature, `.name` or nothing.
 #[tactic(auto, unfolding(gno_reader::proofs::Shown::reading, gno_rules::specs::Parts::dotted, gno_rules::specs::Signatures::signature, gno_rules::specs::Signatures::parameters, gno_rules::specs::Types::behind_member_name, gno_rules::specs::Types::no_union))]
-fn behind_member_name<R: Reader>(
+fn behind_member_name<R: ExprReader>(
     reader: &R,
     tokens: &mut Cursor<'_>,
     name: Name,
@@ -29,7 +28,7 @@ fn behind_member_name<R: Reader>(
     ensures { Gives (map (λ f. f name) (reads (R.scope reader.now) spec.behind_member_name) tokens.old) result tokens.new }
 {
     if tokens.sees(TokenKind::LeftParen) {
-        let SignatureRead { signature, .. } = signature(reader, tokens)?;
+        let SignatureRead { signature, .. } = reader.signature(tokens)?;
         return Ok(Member::Method { name, signature });
     }
     if tokens.sees(TokenKind::Period) {
@@ -47,7 +46,7 @@ fn behind_member_name<R: Reader>(
 
 /// `name(parameters) results`, or an interface by its name.
 #[tactic(auto, unfolding(gno_reader::proofs::Shown::reading, gno_rules::specs::Types::member))]
-fn member<R: Reader>(reader: &R, tokens: &mut Cursor<'_>) -> Result<Member, Failure>
+fn member<R: ExprReader>(reader: &R, tokens: &mut Cursor<'_>) -> Result<Member, Failure>
     requires { R.nests reader.now }
     ensures { Gives (reads (R.scope reader.now) spec.member tokens.old) result tokens.new }
 {
@@ -59,7 +58,7 @@ fn member<R: Reader>(reader: &R, tokens: &mut Cursor<'_>) -> Result<Member, Fail
 }
 
 /// `members }`, with semicolons between them.
-fn members<R: Reader>(reader: &R, tokens: &mut Cursor<'_>) -> Result<List<Member>, Failure>
+fn members<R: ExprReader>(reader: &R, tokens: &mut Cursor<'_>) -> Result<List<Member>, Failure>
     requires { R.nests reader.now }
     ensures { Gives (reads (R.scope reader.now) (λ text. closed_by k.Semicolon k.RightBrace (spec.member text)) tokens.old) result tokens.new }
 {
@@ -77,7 +76,7 @@ fn members<R: Reader>(reader: &R, tokens: &mut Cursor<'_>) -> Result<List<Member
 
 /// `interface { members }`
 #[tactic(auto, unfolding(gno_reader::proofs::Shown::reading, gno_rules::specs::Types::interface))]
-pub fn interface<R: Reader>(reader: &R, tokens: &mut Cursor<'_>) -> Result<TypeRead, Failure>
+pub fn interface<R: ExprReader>(reader: &R, tokens: &mut Cursor<'_>) -> Result<TypeRead, Failure>
     requires { R.nests reader.now }
     ensures { Gives (reads (R.scope reader.now) spec.interface tokens.old) result tokens.new }
 {

@@ -10,13 +10,13 @@ ghost use Rattle.gno_scan.specs.declared.kind.TokenKind.TheVariants as k;
 use crate::built::{length, map, of_length};
 use crate::field::structure;
 use crate::member::interface;
-use gno_reader::{Cursor, Failure, Reader, construct};
+use gno_reader::{Cursor, ExprReader, Failure, construct};
 use gno_rules::{Length, OperandType, TypeRead};
 use gno_scan::{Pos, TokenKind};
 
 /// `]`, `length]`, `...]`
 #[tactic(auto, unfolding(gno_reader::proofs::Shown::reading, gno_rules::specs::Types::operand_length))]
-fn operand_length<R: Reader>(reader: &R, tokens: &mut Cursor<'_>) -> Result<Length, Failure>
+fn operand_length<R: ExprReader>(reader: &R, tokens: &mut Cursor<'_>) -> Result<Length, Failure>
     requires { R.nests reader.now }
     ensures { Gives (reads (R.scope reader.now) spec.operand_length tokens.old) result tokens.new }
 {
@@ -30,7 +30,10 @@ fn operand_length<R: Reader>(reader: &R, tokens: &mut Cursor<'_>) -> Result<Leng
 
 /// `[]`, `[length]`, `[...]`, with the place of its `[`
 #[tactic(auto, unfolding(gno_reader::proofs::Shown::reading))]
-fn operand_bracket<R: Reader>(reader: &R, tokens: &mut Cursor<'_>) -> Result<(Pos, Length), Failure>
+fn operand_bracket<R: ExprReader>(
+    reader: &R,
+    tokens: &mut Cursor<'_>,
+) -> Result<(Pos, Length), Failure>
     requires { R.nests reader.now }
     ensures { Gives (reads (R.scope reader.now) (λ text. both (λ t length. (t.pos, length)) (a k.LeftBracket) (spec.operand_length text)) tokens.old) result tokens.new }
 {
@@ -48,7 +51,7 @@ fn is_counted(length: &Length) -> bool
 
 /// `[]type`, `[length]type`, `[...]type`
 #[tactic(auto, unfolding(gno_reader::proofs::Shown::reading, gno_rules::specs::Types::array_operand))]
-fn array_operand<R: Reader>(reader: &R, tokens: &mut Cursor<'_>) -> Result<OperandType, Failure>
+fn array_operand<R: ExprReader>(reader: &R, tokens: &mut Cursor<'_>) -> Result<OperandType, Failure>
     requires { R.nests reader.now }
     ensures { Gives (reads (R.scope reader.now) spec.array_operand tokens.old) result tokens.new }
 {
@@ -65,7 +68,7 @@ fn array_operand<R: Reader>(reader: &R, tokens: &mut Cursor<'_>) -> Result<Opera
 
 /// A map, a struct or an interface.
 #[tactic(auto, unfolding(gno_reader::proofs::Shown::reading, gno_rules::specs::Types::map, gno_rules::specs::Types::map_key, crate::proofs::Shown::structure))]
-fn built_operand<R: Reader>(reader: &R, tokens: &mut Cursor<'_>) -> Result<TypeRead, Failure>
+fn built_operand<R: ExprReader>(reader: &R, tokens: &mut Cursor<'_>) -> Result<TypeRead, Failure>
     requires { R.nests reader.now }
     ensures { Gives (reads (R.scope reader.now) (λ text. either (spec.map text) (either (spec.struct text) (spec.interface text))) tokens.old) result tokens.new }
 {
@@ -80,7 +83,10 @@ fn built_operand<R: Reader>(reader: &R, tokens: &mut Cursor<'_>) -> Result<TypeR
 
 /// A type that is an operand.
 #[tactic(auto, unfolding(gno_reader::proofs::Shown::reading, gno_rules::specs::Types::type_operand, gno_rules::specs::Types::array_operand))]
-pub fn type_operand<R: Reader>(reader: &R, tokens: &mut Cursor<'_>) -> Result<OperandType, Failure>
+pub fn type_operand<R: ExprReader>(
+    reader: &R,
+    tokens: &mut Cursor<'_>,
+) -> Result<OperandType, Failure>
     requires { R.nests reader.now }
     ensures { Gives (reads (R.scope reader.now) spec.type_operand tokens.old) result tokens.new }
 {

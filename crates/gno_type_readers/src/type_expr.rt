@@ -12,12 +12,11 @@ use crate::field::structure;
 use crate::left_out::left_out;
 use crate::member::interface;
 use gno_base::Boxed;
-use gno_expressions::expr;
 use gno_grammar::LeftOut;
-use gno_reader::{Cursor, Failure, Reader, construct};
+use gno_reader::type_name::type_by_name;
+use gno_reader::{Cursor, ExprReader, Failure, Reader, construct};
 use gno_rules::{Found, Length, Place, TypeEnd, TypeRead};
 use gno_scan::{Pos, Token, TokenKind};
-use gno_signatures::type_by_name;
 use gno_tree::TypeExpr;
 
 /// `(type)`
@@ -41,7 +40,7 @@ fn paren_type<R: Reader>(reader: &R, tokens: &mut Cursor<'_>) -> Result<TypeRead
 
 /// A type that does not begin with a parenthesis.
 #[tactic(auto, unfolding(gno_reader::proofs::Shown::reading, gno_rules::specs::Parts::name, gno_rules::specs::Signatures::type_by_name, gno_rules::specs::Types::result_type))]
-pub fn result_type<R: Reader>(reader: &R, tokens: &mut Cursor<'_>) -> Result<TypeRead, Failure>
+pub fn result_type<R: ExprReader>(reader: &R, tokens: &mut Cursor<'_>) -> Result<TypeRead, Failure>
     requires { R.nests reader.now }
     ensures { Gives (reads (R.scope reader.now) spec.result_type tokens.old) result tokens.new }
 {
@@ -53,7 +52,7 @@ pub fn result_type<R: Reader>(reader: &R, tokens: &mut Cursor<'_>) -> Result<Typ
 
 /// A type that does not begin with a name.
 #[tactic(auto, unfolding(gno_reader::proofs::Shown::reading, gno_rules::specs::Types::other_type, gno_rules::specs::Types::paren_type))]
-pub fn other_type<R: Reader>(reader: &R, tokens: &mut Cursor<'_>) -> Result<TypeRead, Failure>
+pub fn other_type<R: ExprReader>(reader: &R, tokens: &mut Cursor<'_>) -> Result<TypeRead, Failure>
     requires { R.nests reader.now }
     ensures { Gives (reads (R.scope reader.now) spec.other_type tokens.old) result tokens.new }
 {
@@ -65,7 +64,7 @@ pub fn other_type<R: Reader>(reader: &R, tokens: &mut Cursor<'_>) -> Result<Type
 
 /// A type.
 #[tactic(auto, unfolding(gno_reader::proofs::Shown::reading, gno_rules::specs::Parts::name, gno_rules::specs::Signatures::type_by_name, crate::proofs::Shown::any_type))]
-pub fn type_read<R: Reader>(reader: &R, tokens: &mut Cursor<'_>) -> Result<TypeRead, Failure>
+pub fn type_read<R: ExprReader>(reader: &R, tokens: &mut Cursor<'_>) -> Result<TypeRead, Failure>
     requires { R.nests reader.now }
     ensures { Gives (reads (R.scope reader.now) spec.type tokens.old) result tokens.new }
 {
@@ -99,7 +98,7 @@ fn length_end<R: Reader>(
 
 /// `]`, `length]`
 #[tactic(auto, unfolding(gno_reader::proofs::Shown::reading, gno_rules::specs::Types::declared_length))]
-fn declared_length<R: Reader>(reader: &R, tokens: &mut Cursor<'_>) -> Result<Length, Failure>
+fn declared_length<R: ExprReader>(reader: &R, tokens: &mut Cursor<'_>) -> Result<Length, Failure>
     requires { R.nests reader.now }
     ensures { Gives (reads (R.scope reader.now) spec.declared_length tokens.old) result tokens.new }
 {
@@ -107,14 +106,14 @@ fn declared_length<R: Reader>(reader: &R, tokens: &mut Cursor<'_>) -> Result<Len
         tokens.expect(TokenKind::RightBracket)?;
         return Ok(Length::Nothing);
     }
-    let length = expr(reader, tokens, Place::Plain)?;
+    let length = reader.expr(tokens, Place::Plain)?;
     length_end(reader, tokens, &length)?;
     Ok(Length::Expr(length.into_expr()))
 }
 
 /// `[]`, `[length]`, with the place of its `[`
 #[tactic(auto, unfolding(gno_reader::proofs::Shown::reading))]
-fn declared_bracket<R: Reader>(
+fn declared_bracket<R: ExprReader>(
     reader: &R,
     tokens: &mut Cursor<'_>,
 ) -> Result<(Pos, Length), Failure>
@@ -128,7 +127,7 @@ fn declared_bracket<R: Reader>(
 
 /// `[]type`, `[length]type`
 #[tactic(auto, unfolding(gno_reader::proofs::Shown::reading, gno_rules::specs::Types::declared_array))]
-fn declared_array<R: Reader>(reader: &R, tokens: &mut Cursor<'_>) -> Result<TypeRead, Failure>
+fn declared_array<R: ExprReader>(reader: &R, tokens: &mut Cursor<'_>) -> Result<TypeRead, Failure>
     requires { R.nests reader.now }
     ensures { Gives (reads (R.scope reader.now) spec.declared_array tokens.old) result tokens.new }
 {
@@ -140,7 +139,10 @@ fn declared_array<R: Reader>(reader: &R, tokens: &mut Cursor<'_>) -> Result<Type
 
 /// The type of a declaration.
 #[tactic(auto, unfolding(gno_reader::proofs::Shown::reading, gno_rules::specs::Parts::name, gno_rules::specs::Signatures::type_by_name, gno_rules::specs::Types::declared_type, gno_rules::specs::Types::paren_type, gno_rules::specs::Types::pointer, gno_rules::specs::Types::declared_array, gno_rules::specs::Types::map, gno_rules::specs::Types::map_key, gno_rules::specs::Types::function, crate::proofs::Shown::structure))]
-pub fn declared_type<R: Reader>(reader: &R, tokens: &mut Cursor<'_>) -> Result<TypeRead, Failure>
+pub fn declared_type<R: ExprReader>(
+    reader: &R,
+    tokens: &mut Cursor<'_>,
+) -> Result<TypeRead, Failure>
     requires { R.nests reader.now }
     ensures { Gives (reads (R.scope reader.now) spec.declared_type tokens.old) result tokens.new }
 {
