@@ -6,7 +6,6 @@ use Rattle.gno_reader.specs.Answers.{Fails, one_token}
 use Rattle.gno_reader.specs.Scope.{Scope, reads}
 use Rattle.gno_reader.proofs.Built.{built, fails_first, fails_same}
 use Rattle.gno_reader.specs.declared.cursor.Failure.{Failure}
-use Rattle.gno_reader.specs.declared.cursor.Failure.TheVariants.{NoMemory, Refused}
 use Rattle.gno_rules.specs.Shapes.{end_of, shape_of_operand, with_suffix, shape_of_operands, with_operation, found_of_operands, operators_behind, within_place}
 use Rattle.gno_rules.specs.Expressions.{suffix, unary, operations}
 use Rattle.gno_rules.specs.declared.expression.Found.{Found}

@@ -1,29 +1,25 @@
 -- The loops of this crate, each with the phrase of its turns and the test of its code.
-use Rattle.std.proofs.Common.{◌≡◌, sym, ap, ◌∙◌, subst, ℕ, suc, ◌<◌, Bool, true, false, ◌&&◌, not, List, [], ◌∷◌, ◌++◌, length}
-use Rattle.gno_grammar.specs.Readers.{Outcome, got, and_then, map, begins, null, first, run}
-use Rattle.gno_grammar.proofs.Loops.{Going, go_on, go_end, turn_shorter, turn_goes}
-use Rattle.gno_scan.specs.declared.kind.TokenKind.TheVariants as k
+use Rattle.std.proofs.Common.{◌≡◌, sym, ap, ◌∙◌, subst, ℕ, suc, ◌<◌, Bool, true, false, ◌&&◌, not, List, [], length}
+use Rattle.gno_grammar.specs.Readers.{Outcome, got, map, begins, first}
+use Rattle.gno_grammar.proofs.Loops.{Going, go_end, turn_shorter, turn_goes}
 use Rattle.gno_scan.specs.declared.token.Token.{Token}
-use Rattle.gno_tree.specs.declared.expr.Expr.{Expr}
-use Rattle.gno_reader.specs.Answers.{Fails, sees}
+use Rattle.gno_reader.specs.Answers.{Fails}
 use Rattle.gno_reader.specs.Scope.{Scope, reads}
 use Rattle.gno_reader.specs.declared.cursor.Failure.{Failure}
 use Rattle.gno_reader.proofs.Built.{read_given}
-use Rattle.gno_reader.proofs.Turns.{step_fails, turn_fails, read_to, repeat_going, chain_going}
+use Rattle.gno_reader.proofs.Turns.{turn_fails, chain_going}
 use Rattle.gno_rules.specs.Kinds.{code, numbers}
-use Rattle.gno_rules.specs.Parts.{P, a, to, given, past, always, one, with_last}
-use Rattle.gno_rules.specs.Signatures.{COMMA}
-use Rattle.gno_rules.specs.Shapes.{operands, operators, behind, MOST, SUFFIX, exprs_alone, end_of, is_guard, expr_of, shape_of_operand, with_suffix, shape_of_operands, with_operation, operators_behind, within_place, with_expr}
-use Rattle.gno_rules.specs.Expressions.{is_guarded, exprs_more, found_more, suffix, operand_alone, stepped, operations, expr, exprs, values}
+use Rattle.gno_rules.specs.Parts.{P, given}
+use Rattle.gno_rules.specs.Shapes.{operands, operators, behind, MOST, SUFFIX, end_of, is_guard, shape_of_operand, with_suffix, shape_of_operands, with_operation, operators_behind}
+use Rattle.gno_rules.specs.Expressions.{suffix, operand_alone, stepped, operations}
 use Rattle.gno_rules.specs.Table.{grammar}
-use Rattle.gno_rules.specs.declared.expression.Exprs.{Exprs}
 use Rattle.gno_rules.specs.declared.expression.Found.{Found}
 use Rattle.gno_rules.specs.declared.expression.Operand.{Operand}
 use Rattle.gno_rules.specs.declared.expression.Operands.{Operands}
 use Rattle.gno_rules.specs.declared.expression.Place.{Place}
 use Rattle.gno_rules.specs.declared.expression.Suffix.{Suffix}
 use Rattle.gno_expressions.specs.Turn.{turn, level}
-use Rattle.gno_expressions.proofs.Turns.{takes_suffix, takes_further_expr, takes_further_value, takes_turn, first_turn, first_suffix}
+use Rattle.gno_expressions.proofs.Turns.{takes_suffix, takes_turn, first_turn, first_suffix}
 
 -- ---- the steps behind an operand
 

@@ -1,19 +1,16 @@
 -- The phrases that are repeated take a token.
 use Rattle.std.proofs.Common.{◌≡◌, refl, ℕ, ◌<◌, Bool, List, [], length}
 use Rattle.gno_grammar.specs.Readers.{got}
-use Rattle.gno_grammar.proofs.Plain.{easy}
 use Rattle.gno_reader.specs.Scope.{Scope, reads}
 use Rattle.gno_reader.proofs.Turns.{takes}
-use Rattle.gno_rules.specs.Parts.{P, a, past, name}
+use Rattle.gno_rules.specs.Parts.{P, a, past}
 use Rattle.gno_rules.specs.Signatures.{next_entry}
-use Rattle.gno_rules.specs.Table.{grammar}
 use Rattle.gno_rules.specs.declared.parameters.Entry.{Entry}
 use Rattle.gno_rules.specs.declared.parameters.ListState.{ListState}
 use Rattle.gno_rule_laws.proofs.SignaturesSound.{sound_parameters}
 use Rattle.gno_rule_laws.proofs.TypeEnds.{shown_sets, shown_parts, shown_signatures}
 use Rattle.gno_scan.specs.declared.kind.TokenKind.TheVariants as k
 use Rattle.gno_scan.specs.declared.token.Token.{Token}
-use Rattle.gno_tree.specs.declared.word.Name.{Name}
 
 -- a comma, and an entry behind it
 abbrev pub next : Bool → ListState → List ℕ → P Entry
