@@ -1,3 +1,5 @@
 pub mod Stacks
 pub mod Firsts
 pub mod Rows
+pub mod Words
+pub mod Shelves

@@ -11,3 +11,6 @@ mod text;
 mod writer;
 
 pub use text::type_text;
+
+#[cfg(test)]
+mod tests;
