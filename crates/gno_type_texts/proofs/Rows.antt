@@ -1,5 +1,5 @@
 -- What the row of a type says of its text.
-use Rattle.std.proofs.Common.{◌≡◌, refl, sym, ap, ap₂, ◌∙◌, subst, true≢false, ℕ, Bool, true, false, List, [], ◌++◌, length, map, drop, codes, Some}
+use Rattle.std.proofs.Common.{◌≡◌, refl, sym, ap, ap₂, ◌∙◌, subst, true≢false, Bool, true, List, ◌++◌, length, map, drop, Some}
 use Rattle.std.specs.Prelude.{slice_get}
 use Rattle.gno_terms.specs.declared.term.GoType.{GoType}
 use Rattle.gno_terms.specs.declared.term.TypeRef.{TypeRef}

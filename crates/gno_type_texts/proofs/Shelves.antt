@@ -1,6 +1,6 @@
 -- What may be added to a table.
 use Rattle.std.proofs.Common.{◌≡◌, refl, sym, ap, ◌∙◌, subst, ℕ, zero, suc, Bool, true, false, List, [], ◌∷◌, ◌++◌, Option, Some, None, length, map, rules}
-use Rattle.std.specs.Prelude.{slice_get, IfSome}
+use Rattle.std.specs.Prelude.{slice_get}
 use Rattle.std.proofs.lemmas.Option.{slice_get_within}
 use Rattle.gno_terms.specs.declared.term.GoType.{GoType}
 use Rattle.gno_terms.specs.declared.term.TypeRef.{TypeRef}

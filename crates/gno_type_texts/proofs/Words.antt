@@ -1,5 +1,5 @@
 -- Words that are names.
-use Rattle.std.proofs.Common.{◌≡◌, refl, sym, ap, ◌∙◌, true≢false, ℕ, ◌<◌, Bool, true, false, not, ◌&&◌, List, [], ◌∷◌, ◌++◌, Option, Some, None, Ok, Err, subst, arith, rules}
+use Rattle.std.proofs.Common.{◌≡◌, refl, sym, ap, ◌∙◌, true≢false, ℕ, ◌<◌, Bool, true, not, List, [], ◌∷◌, ◌++◌, Option, Some, None, Ok, Err, subst, arith, rules}
 use Rattle.std.specs.Prelude.{All, IfOk, flat_map, nat_lt, option_map}
 use Rattle.std.specs.List.{list_all}
 use Rattle.std.specs.declared.result.Result.{Result}

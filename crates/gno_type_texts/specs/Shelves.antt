@@ -1,5 +1,5 @@
 -- What tests add to a table.
-use Rattle.std.specs.Prelude.{ℕ, List, length, map, Bool, not, ◌&&◌, nat_lt}
+use Rattle.std.specs.Prelude.{ℕ, List, length, Bool, not, ◌&&◌, nat_lt}
 use Rattle.std.specs.Char.{is_ascii_alphabetic}
 use Rattle.std.specs.List.{list_all}
 use Rattle.gno_base.specs.Callers.{is_small_letter}
