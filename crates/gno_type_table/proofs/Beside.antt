@@ -12,7 +12,7 @@ use Rattle.gno_terms.specs.Tables.{Below, type_at}
 use Rattle.gno_terms.specs.Terms.{method_of, method_with}
 use Rattle.gno_terms.proofs.Parts.{Each-weaken, term_with_alike}
 use Rattle.gno_type_table.specs.RowTypes.{AreDefinitions, IsDefinition, definition_with, definitions_in, is_defined}
-use Rattle.gno_type_table.proofs.Ends.{Where, inside, last, get_where}
+use Rattle.gno_layouts.proofs.Ends.{Where, inside, last, get_where}
 use Rattle.gno_type_table.proofs.Injective.{methods_in}
 
 no_definition : {d : DefinitionOf TypeRef} {A : Type 0} → Some d ≡ None → A

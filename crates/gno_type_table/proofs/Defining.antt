@@ -17,9 +17,9 @@ use Rattle.gno_terms.specs.Terms.{method_of, term_of, term_with}
 use Rattle.gno_terms.proofs.Parts.{Each-weaken}
 use Rattle.gno_type_table.specs.RowTypes.{deeps, IsTable, IsDefinition, table_of, definition_with, is_defined, is_of_path, unless_of_path}
 use Rattle.gno_type_table.specs.declared.key.Key.{Key}
-use Rattle.gno_type_table.proofs.Ends.{some_at}
+use Rattle.gno_layouts.proofs.Ends.{some_at}
 use Rattle.gno_type_table.proofs.Pushed.{at_it, term_of_type}
-use Rattle.gno_type_table.proofs.SetAt.{set_size, set_here, set_elsewhere, Same, here, elsewhere, where_is}
+use Rattle.gno_layouts.proofs.SetAt.{set_size, set_here, set_elsewhere, Same, here, elsewhere, where_is}
 use Rattle.gno_type_table.proofs.Told.{Beside, beside, told}
 
 abbrev Definitions : Type 0
@@ -38,7 +38,7 @@ inner_eq d e h = ap (inner d) h
 not_none : (d : DefinitionOf TypeRef) → Some None ≡ Some (Some d) → ⊥
 not_none d e = search (rules, e)
 
-defined_with : (f : TypeRef → GoType) (x : TermOf TypeRef) → is_defined (term_with f x) ≡ is_defined x
+pub defined_with : (f : TypeRef → GoType) (x : TermOf TypeRef) → is_defined (term_with f x) ≡ is_defined x
 defined_with f (t.Defined path name local) = refl
 defined_with f _ = refl
 
@@ -88,7 +88,7 @@ module _ (terms : List (TermOf TypeRef)) (m : BTreeMap Key ℕ) (ds : Definition
   of_below : (n : ℕ) (e : DefinitionOf TypeRef) → slice_get ds n ≡ Some (Some e) → Below (length types) e.of
   of_below n e h = below_types e.of (let o = (is.definitions.each n e h).own in let w = slice_get_within ds n (Some e) h in let z = is.definitions.size in omega arith)
 
-  row_of : (d : DefinitionOf GoType) (b : Beside types ds d) → slice_get types b.number ≡ Some d.of
+  pub row_of : (d : DefinitionOf GoType) (b : Beside types ds d) → slice_get types b.number ≡ Some d.of
   row_of d b =
       let o = (is.definitions.each b.number b.by b.there).own in
       ap (slice_get types) (sym o) ∙ at_it types b.by.of (of_below b.number b.by b.there) ∙ ap (λ e. Some e.of) b.is
@@ -103,7 +103,7 @@ module _ (terms : List (TermOf TypeRef)) (m : BTreeMap Key ℕ) (ds : Definition
   beside_row : (n : ℕ) (e : DefinitionOf TypeRef) → slice_get ds n ≡ Some (Some e) → (x : TermOf TypeRef) × (slice_get terms n ≡ Some x)
   beside_row n e h = some_at terms n (let w = slice_get_within ds n (Some e) h in let z = is.definitions.size in omega arith)
 
-  term_at : (n : ℕ) (x : TermOf TypeRef) (s : GoType) → slice_get terms n ≡ Some x → slice_get types n ≡ Some s → term_of s ≡ term_with (type_at types) x
+  pub term_at : (n : ℕ) (x : TermOf TypeRef) (s : GoType) → slice_get terms n ≡ Some x → slice_get types n ≡ Some s → term_of s ≡ term_with (type_at types) x
   term_at n x s h k = ap (λ o. term_of (type_or o)) (sym k ∙ is.rows.rows n x h) ∙ term_of_type (term_with (type_at types) x)
 
   module _ (d : DefinitionOf TypeRef) (at : Below (length types) d.of) (under : Below (length types) d.underlying) (methods : Each (Below (length types)) (map method_of d.methods))

@@ -6,7 +6,7 @@ use Rattle.gno_terms.specs.declared.term.TypeRef.{TypeRef}
 use Rattle.gno_terms.specs.declared.term.TermOf.{TermOf}
 use Rattle.gno_terms.specs.declared.term.DefinitionOf.{DefinitionOf}
 use Rattle.gno_type_table.specs.RowTypes.{is_of_path, unless_of_path}
-use Rattle.gno_type_table.proofs.SetAt.{set_size, set_here, set_elsewhere, Same, here, elsewhere, where_is, before}
+use Rattle.gno_layouts.proofs.SetAt.{set_size, set_here, set_elsewhere, Same, here, elsewhere, where_is, before}
 
 abbrev Beside : Type 0
 Beside = List (Option (DefinitionOf TypeRef))

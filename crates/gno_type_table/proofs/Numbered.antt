@@ -9,7 +9,7 @@ use Rattle.gno_terms.specs.declared.term.TermOf.{TermOf}
 use Rattle.gno_type_table.specs.Keys.{by_key, key_of}
 use Rattle.gno_type_table.specs.RowTypes.{HasNumbers}
 use Rattle.gno_type_table.specs.declared.key.Key.{Key}
-use Rattle.gno_type_table.proofs.Ends.{get_left, get_last, Where, inside, last, get_where}
+use Rattle.gno_layouts.proofs.Ends.{get_left, get_last, Where, inside, last, get_where}
 use Rattle.gno_type_table.proofs.KeyOrder.{equal_keys, same_key}
 use Rattle.gno_type_table.proofs.KeysDiffer.{key_inj}
 

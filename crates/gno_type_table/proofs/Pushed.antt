@@ -15,7 +15,7 @@ use Rattle.gno_terms.proofs.NormalTerms.{normal_term_with, normal_term_lawful, p
 use Rattle.gno_terms.proofs.NormalTypes.{normal_of_normal_parts, normal_is_normal}
 use Rattle.gno_terms.proofs.Parts.{Each-map, Each-weaken, parts_with, term_with_alike}
 use Rattle.gno_type_table.specs.RowTypes.{deeps, IsGood, AreRows}
-use Rattle.gno_type_table.proofs.Ends.{get_left, get_last, Where, inside, last, get_where, some_at}
+use Rattle.gno_layouts.proofs.Ends.{get_left, get_last, Where, inside, last, get_where, some_at}
 use Rattle.gno_type_table.proofs.Injective.{term_inj}
 
 pub deeps_push : (xs : List (TermOf TypeRef)) (x : TermOf TypeRef) (types : List GoType) → deeps (xs ++ x ∷ []) types ≡ deeps xs types ++ deep (deeps xs types) x ∷ []

@@ -15,7 +15,7 @@ use Rattle.gno_type_table.specs.Keys.{by_key, key_of}
 use Rattle.gno_type_table.specs.RowTypes.{deeps, IsGood, AreRows, IsTable, definitions_in}
 use Rattle.gno_type_table.specs.declared.key.Key.{Key}
 use Rattle.gno_type_table.proofs.Beside.{definitions_push, alike_definitions, IsAlike}
-use Rattle.gno_type_table.proofs.Ends.{get_left, get_last, some_at}
+use Rattle.gno_layouts.proofs.Ends.{get_left, get_last, some_at}
 use Rattle.gno_type_table.proofs.Numbered.{numbers_push, same_numbers}
 use Rattle.gno_type_table.proofs.Pushed.{deeps_push, deep_inj, pushed, at_it}
 

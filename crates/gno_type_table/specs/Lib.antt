@@ -1,3 +1,5 @@
 pub mod Keys
 pub mod RowTypes
 pub mod ErrorParts
+pub mod Holding
+pub mod Laid

@@ -2,6 +2,7 @@
 #![tactic(auto)]
 
 mod key;
+mod laid;
 mod predeclared;
 mod rows;
 mod table;

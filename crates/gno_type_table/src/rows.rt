@@ -1,5 +1,5 @@
 // Each type that was met stands once in the table, behind its parts.
-ghost use Rattle.std.specs.Prelude.{◌≡◌, ◌≢◌, [], ◌↔◌, ◌⊎◌, true, ℕ, IfOk, IfSome, IsNone, IsTrue, Some, length, map, slice_get};
+ghost use Rattle.std.specs.Prelude.{◌≡◌, ◌≢◌, [], ◌↔◌, ◌⊎◌, true, ℕ, ◌-◌, ◌^◌, IfOk, IfSome, IsNone, IsTrue, OnErr, OnOk, Some, length, map, min, slice_get};
 ghost use Rattle.gno_terms.specs.declared.term.GoType.{GoType};
 ghost use Rattle.gno_terms.specs.declared.term.DefinitionOf.{DefinitionOf};
 ghost use Rattle.gno_terms.specs.declared.term.TermOf.{TermOf};
@@ -8,10 +8,13 @@ ghost use Rattle.gno_terms.specs.Lawful.{Each, IsLawful};
 ghost use Rattle.gno_terms.specs.Normal.{Identical, normal};
 ghost use Rattle.gno_terms.specs.Tables.{Below, Defines, Grows, Is, IsOfPath, PartsBelow, deep, type_at};
 ghost use Rattle.gno_terms.specs.Terms.{method_of, term_of, term_with};
+ghost use Rattle.gno_type_table.specs.Holding.{IsComparable, Slots};
 ghost use Rattle.gno_type_table.specs.Keys.{by_key, key_of};
 ghost use Rattle.gno_type_table.specs.RowTypes.{IsGood, definition_with, is_defined, is_of_path, unless_of_path};
 
 use crate::key::Key;
+use crate::laid::row_of;
+use gno_layouts::{Layout, Layouts};
 use gno_terms::{DefinitionOf, Term, TypeRef, normal_term};
 use std::alloc::{AllocError, Global};
 use std::collections::BTreeMap;
@@ -26,12 +29,15 @@ pub(crate) struct Rows {
     numbers: BTreeMap<Key, usize>,
     // What a declaration says of each defined type, by its number.
     definitions: Vec<Option<DefinitionOf<TypeRef>>>,
+    // How much values of each type hold.
+    layouts: Layouts,
 }
 
 impl Model for Rows {
     ghost use Rattle.gno_terms.specs.contracts.term.GoType as go_type;
     ghost use Rattle.gno_terms.specs.Tables.{Table};
-    ghost use Rattle.gno_type_table.specs.RowTypes.{IsTable, table_of};
+    ghost use Rattle.gno_type_table.specs.Laid.{IsLaidOut};
+    ghost use Rattle.gno_type_table.specs.RowTypes.{table_of};
     ghost use Rattle.std.specs.Coded.{codes};
 
     ghost Value = { Table };
@@ -40,7 +46,7 @@ impl Model for Rows {
 
     ghost view = { λ it. table_of it.terms.items it.definitions.items };
 
-    ghost invariant = { λ it. IsTable it.terms.items it.numbers it.definitions.items };
+    ghost invariant = { λ it. IsLaidOut it.terms.items it.numbers it.definitions.items it.layouts };
 }
 
 impl Rows {
@@ -53,6 +59,7 @@ impl Rows {
             terms: Vec::new(alloc),
             numbers: BTreeMap::new(alloc),
             definitions: Vec::new(alloc),
+            layouts: Layouts::new(alloc),
         }
     }
 
@@ -107,13 +114,24 @@ impl Rows {
         ensures grows { Grows self.old self.new }
         ensures definitions { self.new.definitions ≡ self.old.definitions }
     {
+        let alloc = *self.terms.allocator();
         self.terms.reserve(1)?;
         self.definitions.reserve(1)?;
+        let row = row_of(alloc, &term)?;
+        self.layouts.have_rows();
+        self.layouts.push(row)?;
         let number = self.terms.len();
-        self.numbers.insert(key, number)?;
-        self.terms.push(term)?;
-        self.definitions.push(None)?;
-        Ok(TypeRef(number as u64))
+        match self.numbers.insert(key, number) {
+            Ok(_) => {
+                self.terms.push(term)?;
+                self.definitions.push(None)?;
+                Ok(TypeRef(number as u64))
+            }
+            Err(_) => {
+                self.layouts.pop();
+                Err(AllocError)
+            }
+        }
     }
 
     /// What a declaration says of a type.
@@ -128,17 +146,20 @@ impl Rows {
     }
 
     /// Notes what a declaration says of a defined type.
-    pub(crate) fn define(&mut self, definition: DefinitionOf<TypeRef>)
+    pub(crate) fn define(&mut self, definition: DefinitionOf<TypeRef>) -> Result<(), AllocError>
         requires of { Below (length self.old.types) definition.of }
         requires underlying { Below (length self.old.types) definition.underlying }
         requires methods { Each (Below (length self.old.types)) (map method_of definition.methods) }
         requires defined { is_defined (term_of (type_at self.old.types definition.of)) ≡ true }
         requires new { (d : DefinitionOf GoType) → Defines self.old d → d.of ≢ type_at self.old.types definition.of }
         ensures types { self.new.types ≡ self.old.types }
-        ensures definitions { (d : DefinitionOf GoType) → Defines self.new d ↔ (Defines self.old d ⊎ (d ≡ definition_with (type_at self.old.types) definition)) }
+        ensures definitions { OnOk result ((d : DefinitionOf GoType) → Defines self.new d ↔ (Defines self.old d ⊎ (d ≡ definition_with (type_at self.old.types) definition))) }
+        ensures err { OnErr result (self.new ≡ self.old) }
     {
         let number = definition.of.0 as usize;
+        self.layouts.define(number, definition.underlying.0 as usize)?;
         self.definitions[number] = Some(definition);
+        Ok(())
     }
 
     /// Forgets what declarations say of the types of a package. Takes no memory.
@@ -147,6 +168,20 @@ impl Rows {
         ensures definitions { (d : DefinitionOf GoType) → Defines self.new d ↔ (Defines self.old d × (IsOfPath path.now d.of → ⊥)) }
     {
         forget(path, &self.terms, &mut self.definitions);
+        self.layouts.keep(&self.definitions);
+    }
+
+    /// How many slots values of a type have, and whether they compare. Takes constant time.
+    pub(crate) fn layout(&self, t: TypeRef) -> Layout
+        requires below { Below (length self.now.types) t }
+        requires known { (s : GoType) → Is self.now t s → (n : ℕ) × Slots self.now s n }
+        ensures slots { (s : GoType) (n : ℕ) → Is self.now t s → Slots self.now s n → result.slots ≡ min n (2 ^ 64 - 1) }
+        ensures comparable { (s : GoType) → Is self.now t s → IsTrue result.comparable ↔ IsComparable self.now s }
+    {
+        match self.layouts.layout(t.0 as usize) {
+            Some(layout) => layout,
+            None => unreachable!(),
+        }
     }
 }
 

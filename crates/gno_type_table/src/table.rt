@@ -1,5 +1,5 @@
 // The table of types.
-ghost use Rattle.std.specs.Prelude.{◌≡◌, ◌≢◌, ◌↔◌, ◌⊎◌, [], true, IfOk, IsTrue, OnOk, length, map};
+ghost use Rattle.std.specs.Prelude.{◌≡◌, ◌≢◌, ◌↔◌, ◌⊎◌, ◌-◌, ◌^◌, [], true, ℕ, IfOk, IsTrue, OnOk, length, map, min};
 ghost use Rattle.gno_terms.specs.declared.term.DefinitionOf.{DefinitionOf};
 ghost use Rattle.gno_terms.specs.declared.term.GoType.{GoType};
 ghost use Rattle.gno_terms.specs.declared.term.TypeRef.{TypeRef};
@@ -7,6 +7,7 @@ ghost use Rattle.gno_terms.specs.Lawful.{Each, IsLawful, LawfulType};
 ghost use Rattle.gno_terms.specs.Normal.{Identical, normal};
 ghost use Rattle.gno_terms.specs.Tables.{Below, Defines, Grows, Is, IsOfPath, PartsBelow, Underlying, deep, type_at};
 ghost use Rattle.gno_terms.specs.Terms.{method_of, term_of, term_with};
+ghost use Rattle.gno_type_table.specs.Holding.{IsComparable, Slots};
 ghost use Rattle.gno_type_table.specs.RowTypes.{definition_with, is_defined};
 
 use crate::predeclared::error_interface;
@@ -103,8 +104,7 @@ impl TypeTable {
             of: defined,
             underlying,
             methods,
-        });
-        Ok(())
+        })
     }
 
     /// Takes back the definitions of all types of a package. Takes no memory.
@@ -129,5 +129,23 @@ impl TypeTable {
             Term::Error => self.error,
             _ => t,
         }
+    }
+
+    /// How many slots a value of the type has; at most 2^64 - 1 is answered. Takes constant time.
+    pub fn slots(&self, t: TypeRef) -> u64
+        requires below { Below (length self.now.types) t }
+        requires known { (s : GoType) → Is self.now t s → (n : ℕ) × Slots self.now s n }
+        ensures { (s : GoType) (n : ℕ) → Is self.now t s → Slots self.now s n → result ≡ min n (2 ^ 64 - 1) }
+    {
+        self.rows.layout(t).slots
+    }
+
+    /// Whether values of the type compare. Go specification, "Comparison operators". Takes constant time.
+    pub fn comparable(&self, t: TypeRef) -> bool
+        requires below { Below (length self.now.types) t }
+        requires known { (s : GoType) → Is self.now t s → (n : ℕ) × Slots self.now s n }
+        ensures { (s : GoType) → Is self.now t s → IsTrue result ↔ IsComparable self.now s }
+    {
+        self.rows.layout(t).comparable
     }
 }

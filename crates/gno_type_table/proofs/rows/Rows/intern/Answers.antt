@@ -18,28 +18,28 @@ push-requires-clause-below c = subst (PartsBelow (length c.args.self.now.types))
 
 pub push-requires-clause-good : goal.push-requires-clause-good
 push-requires-clause-good c =
-    let rows : AreRows c.self.inside.terms.items c.args.self.now.types = subst (λ (v : Table). AreRows c.self.inside.terms.items v.types) c.self.view_is c.self.invariant.rows in
+    let rows : AreRows c.self.inside.terms.items c.args.self.now.types = subst (λ (v : Table). AreRows c.self.inside.terms.items v.types) c.self.view_is c.self.invariant.table.rows in
     subst (λ (x : TermOf TypeRef). IsGood (deep c.args.self.now.types x)) (sym c.in_ok-term.ensures) (good_deep c.self.inside.terms.items c.args.self.now.types rows c.args.term c.requires.below c.requires.lawful)
 
 pub push-requires-clause-new : goal.push-requires-clause-new
 push-requires-clause-new c r h =
     let below = subst (λ (v : Table). PartsBelow (length v.types) c.in_ok-term.term) (sym c.self.view_is) (push-requires-clause-below c) in
-    not_there c.self.inside.terms.items c.self.inside.numbers c.self.inside.definitions.items c.in_ok-term.term c.self.invariant below
+    not_there c.self.inside.terms.items c.self.inside.numbers c.self.inside.definitions.items c.in_ok-term.term c.self.invariant.table below
     (ap (λ (k : Key). get by_key c.self.inside.numbers k) (sym c.in_ok-key.ensures) ∙ sym c.in-None.ensures.value) r
     (subst (λ (v : Table). slice_get v.types r.0 ≡ Some (deep v.types c.in_ok-term.term)) (sym c.self.view_is) h)
 
 pub returns-in-Some-clause-is : goal.returns-in-Some-clause-is
 returns-in-Some-clause-is c =
-    let rows : AreRows c.self.inside.terms.items c.args.self.now.types = subst (λ (v : Table). AreRows c.self.inside.terms.items v.types) c.self.view_is c.self.invariant.rows in
+    let rows : AreRows c.self.inside.terms.items c.args.self.now.types = subst (λ (v : Table). AreRows c.self.inside.terms.items v.types) c.self.view_is c.self.invariant.table.rows in
     subst (λ (v : Table). slice_get v.types c.in-Some.number.now ≡ Some (deep v.types c.in_ok-term.term)) c.self.view_is
-    (found_is c.self.inside.terms.items c.self.inside.numbers c.self.inside.definitions.items c.in_ok-term.term c.in-Some.number.now c.self.invariant
+    (found_is c.self.inside.terms.items c.self.inside.numbers c.self.inside.definitions.items c.in_ok-term.term c.in-Some.number.now c.self.invariant.table
     (ap (λ (k : Key). get by_key c.self.inside.numbers k) (sym c.in_ok-key.ensures) ∙ sym c.in-Some.ensures.value))
     ∙ ap (λ (x : TermOf TypeRef). Some (deep c.args.self.now.types x)) c.in_ok-term.ensures
     ∙ ap Some (sym (deep_normal c.self.inside.terms.items c.args.self.now.types rows c.args.term c.requires.below))
 
 pub returns-in-None-clause-is : goal.returns-in-None-clause-is
 returns-in-None-clause-is c =
-    let rows : AreRows c.self.inside.terms.items c.args.self.now.types = subst (λ (v : Table). AreRows c.self.inside.terms.items v.types) c.self.view_is c.self.invariant.rows in
+    let rows : AreRows c.self.inside.terms.items c.args.self.now.types = subst (λ (v : Table). AreRows c.self.inside.terms.items v.types) c.self.view_is c.self.invariant.table.rows in
     subst (λ (s : GoType). IfOk c.push.result (λ (t : TypeRef). Is c.push.new.self t s))
     (ap (λ (x : TermOf TypeRef). deep c.args.self.now.types x) c.in_ok-term.ensures ∙ sym (deep_normal c.self.inside.terms.items c.args.self.now.types rows c.args.term c.requires.below))
     c.push.ensures.is

@@ -3,11 +3,15 @@ use Rattle.gno_terms.specs.declared.term.TypeRef.{TypeRef}
 use Rattle.gno_terms.specs.declared.term.TermOf.{TermOf}
 use Rattle.gno_type_table.specs.RowTypes.{deeps}
 use Rattle.gno_type_table.proofs.Empty.{empty_table}
+use Rattle.gno_type_table.proofs.Laying.{laid_at, laid_empty}
 use Rattle.gno_type_table.proofs.Steps.{at_lists}
 use Rattle.gno_type_table.proofs.rows.Rows.new.Goals as goal
 
 pub invariant_of-result : goal.invariant_of-result
-invariant_of-result c = at_lists c.new.ensures.items c.new-3.ensures.items (empty_table c.new-2.result c.new-2.ensures.empty)
+invariant_of-result c = record {
+  table = at_lists c.new.ensures.items c.new-3.ensures.items (empty_table c.new-2.result c.new-2.ensures.empty);
+  laid = laid_at c.new.ensures.items c.new-3.ensures.items c.new-4.ensures laid_empty;
+}
 
 pub returns-clause-types : goal.returns-clause-types
 unfolding deeps

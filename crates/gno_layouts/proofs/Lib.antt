@@ -1,0 +1,15 @@
+pub mod Ends
+pub mod SetAt
+pub mod Bounds
+pub mod Totals
+pub mod Fitting
+pub mod Agreed
+pub mod Boards
+pub mod Told
+pub mod Theorem
+pub mod Pushed
+pub mod Taken
+pub mod Defining
+pub mod Restarted
+pub mod Noted
+pub mod Written
