@@ -30,10 +30,10 @@ use Rattle.gno_type_table.proofs.Laying.{row_defined, row_told}
 use Rattle.gno_type_table.proofs.Pushed.{at_it}
 use Rattle.gno_type_table.proofs.Told.{Beside, beside}
 
-head_eq : {A : Type 0} {a b : A} {as bs : List A} → a ∷ as ≡ b ∷ bs → a ≡ b
+head_eq : {A : Type 0} {a b : A} {xs ys : List A} → a ∷ xs ≡ b ∷ ys → a ≡ b
 head_eq e = search (rules, e)
 
-tail_eq : {A : Type 0} {a b : A} {as bs : List A} → a ∷ as ≡ b ∷ bs → as ≡ bs
+tail_eq : {A : Type 0} {a b : A} {xs ys : List A} → a ∷ xs ≡ b ∷ ys → xs ≡ ys
 tail_eq e = search (rules, e)
 
 unwrapped : {A : Type 0} {a b : A} → Some a ≡ Some b → a ≡ b
@@ -73,7 +73,10 @@ module _ (terms : List (TermOf TypeRef)) (m : BTreeMap Key ℕ) (ds : List (Opti
       let x = some_at terms k (omega (arith, w, a)) in
       let d = some_at ds k (omega (arith, w, a, b)) in
       record {
-        term = x.0; definition = d.0; there = x.1; beside = d.1;
+        term = x.0;
+        definition = d.0;
+        there = x.1;
+        beside = d.1;
         row = is.laid.each k x.0 d.0 x.1 d.1;
         made = term_at terms m ds is.table k x.0 s x.1 h;
         below = is.table.rows.below k x.0 x.1;
@@ -239,12 +242,13 @@ module _ (terms : List (TermOf TypeRef)) (m : BTreeMap Key ℕ) (ds : List (Opti
       let below : Below (length types) d.underlying = underlying_below terms m ds is.table k d there in
       let i = inner (d.underlying ∷ []) refl (below, tt) in
       let made : DefinitionOf GoType = definition_with (type_at types) d in
-      let own : made.of ≡ s = unwrapped (sym (row_beside terms m ds is.table made (record { number = k; by = d; there = there; is = refl })) ∙ h) in
-      (λ c. by_underlying made defined (some_told terms m ds is.table k d there) own (first (i.0 c)),
-      λ c. let b = underneath defined c in
-          let o : Told k b.0 = told_at k s b.0 h b.1 b.2 in
-          let same : o.by ≡ d = unwrapped (unwrapped (sym o.there ∙ there)) in
-          i.1 (one_more (subst (IsComparable table) (sym o.is_under ∙ ap (λ (e : DefinitionOf TypeRef). type_at types e.underlying) same) b.3) no_more))
+      let own : made.of ≡ s = unwrapped (sym (row_beside terms m ds is.table made (record { number = k; by = d; there = there; is = refl })) ∙ h) in (
+        λ c. by_underlying made defined (some_told terms m ds is.table k d there) own (first (i.0 c)),
+        λ c. let b = underneath defined c in
+            let o : Told k b.0 = told_at k s b.0 h b.1 b.2 in
+            let same : o.by ≡ d = unwrapped (unwrapped (sym o.there ∙ there)) in
+            i.1 (one_more (subst (IsComparable table) (sym o.is_under ∙ ap (λ (e : DefinitionOf TypeRef). type_at types e.underlying) same) b.3) no_more),
+      )
     where
       first : {v : GoType} {vs : List GoType} → AreComparable table (v ∷ vs) → IsComparable table v
       first (one_more c cs) = c
@@ -259,25 +263,25 @@ module _ (terms : List (TermOf TypeRef)) (m : BTreeMap Key ℕ) (ds : List (Opti
       row_is : row ≡ row_of a.term a.definition
       row_is = unwrapped (sym row_at ∙ a.row)
 
-      as : (other : Row) → row_of a.term a.definition ≡ other → (PartsTell other held → is_known other ≡ true → TellsOf (whole other held) s) → TellsOf (whole row held) s
-      as other e f =
+      told_as : (other : Row) → row_of a.term a.definition ≡ other → (PartsTell other held → is_known other ≡ true → TellsOf (whole other held) s) → TellsOf (whole row held) s
+      told_as other e f =
           let same : other ≡ row = sym (row_is ∙ e) in
           subst (λ x. TellsOf (whole x held) s) same (f (subst (λ x. PartsTell x held) (sym same) inner) (ap is_known same ∙ known))
 
       by_definition : is_defined a.term ≡ true → (o : Option (DefinitionOf TypeRef)) → a.definition ≡ o → TellsOf (whole row held) s
-      by_definition e None d_is = as (r.Defined None) (ap (row_of a.term) d_is ∙ row_defined a.term e) (λ i known. false_true known)
-      by_definition e (Some d) d_is = as (r.Defined (Some d.underlying.0)) (ap (row_of a.term) d_is ∙ row_told a.term d e)
+      by_definition e None d_is = told_as (r.Defined None) (ap (row_of a.term) d_is ∙ row_defined a.term e) (λ i known. false_true known)
+      by_definition e (Some d) d_is = told_as (r.Defined (Some d.underlying.0)) (ap (row_of a.term) d_is ∙ row_told a.term d e)
           (λ i known. defined_tells k s held h (ap is_defined a.made ∙ defined_with (type_at types) a.term ∙ e) d (a.beside ∙ ap Some d_is) i)
 
       by : Form a.term → TellsOf (whole row held) s
-      by (arrays n b e) = as (r.Array n b.0) (ap (λ x. row_of x a.definition) e) (λ i known. array_tells k s held a a.term a.made a.below n b e i)
-      by (structs fs e) = as (r.Struct (refs (map field_of fs))) (ap (λ x. row_of x a.definition) e) (λ i known. struct_tells s held a.term a.made a.below fs e i)
+      by (arrays n b e) = told_as (r.Array n b.0) (ap (λ x. row_of x a.definition) e) (λ i known. array_tells k s held a a.term a.made a.below n b e i)
+      by (structs fs e) = told_as (r.Struct (refs (map field_of fs))) (ap (λ x. row_of x a.definition) e) (λ i known. struct_tells s held a.term a.made a.below fs e i)
       by (defineds e) = by_definition e a.definition refl
-      by (singles e) = as (r.Single (compares a.term)) (single_row a.term a.definition e)
+      by (singles e) = told_as (r.Single (compares a.term)) (single_row a.term a.definition e)
           (λ i known.
-            let single : is_single (term_of s) ≡ true = ap is_single a.made ∙ single_with (type_at types) a.term ∙ e in
-            let same : compares (term_of s) ≡ compares a.term = ap compares a.made ∙ compares_with (type_at types) a.term in
-            (λ c. by_kind single (same ∙ c), λ c. sym same ∙ of_single single c))
+          let single : is_single (term_of s) ≡ true = ap is_single a.made ∙ single_with (type_at types) a.term ∙ e in
+          let same : compares (term_of s) ≡ compares a.term = ap compares a.made ∙ compares_with (type_at types) a.term in
+          (λ c. by_kind single (same ∙ c), λ c. sym same ∙ of_single single c))
 
   parted : {v : GoType} {vs : List GoType} → AreComparable table (v ∷ vs) → IsComparable table v × AreComparable table vs
   parted (one_more c cs) = (c, cs)

@@ -1,6 +1,7 @@
 -- Rows of layouts beside the rows of a table.
 use Rattle.std.proofs.Common.{◌≡◌, refl, sym, ap, ◌∙◌, subst, ℕ, ◌+◌, ◌<◌, List, [], ◌∷◌, ◌++◌, length, length-append, map, Bool, true, false, if◌then◌else◌, Option, Some, None, rules, arith}
 use Rattle.std.specs.Prelude.{slice_get, slice_set}
+use Rattle.std.specs.BTreeMap.{BTreeMap}
 use Rattle.std.specs.List.{AllByRecursion}
 use Rattle.std.specs.Option.{is_some}
 use Rattle.std.proofs.lemmas.Option.{slice_get_within}
@@ -19,7 +20,9 @@ use Rattle.gno_terms.specs.Lawful.{Each}
 use Rattle.gno_terms.specs.Tables.{Below, PartsBelow}
 use Rattle.gno_terms.specs.Terms.{parts, field_of}
 use Rattle.gno_type_table.specs.Keys.{refs}
-use Rattle.gno_type_table.specs.Laid.{row_of, AreLaid}
+use Rattle.gno_type_table.specs.Laid.{row_of, AreLaid, IsLaidOut}
+use Rattle.gno_type_table.specs.declared.key.Key.{Key}
+use Rattle.gno_type_table.proofs.Steps.{at_lists, same_table}
 use Rattle.gno_type_table.specs.RowTypes.{is_defined, is_of_path, unless_of_path}
 
 abbrev Terms : Type 0
@@ -40,6 +43,13 @@ laid_at {terms} {terms-2} {ds} {ds-2} {rows} {rows-2} a b c are = subst (λ x. A
 -- a row that was added and taken back
 pub taken_back : (rows more less : List Row) (x y : Row) → more ≡ rows ++ x ∷ [] → more ≡ less ++ y ∷ [] → less ≡ rows
 taken_back rows more less x y e f = sym (taken_init more less y f) ∙ taken_init more rows x e
+
+pub after_failure : {terms terms-2 : Terms} {m n : BTreeMap Key ℕ} {ds ds-2 : Definitions} {rows more less : List Row} (x y : Row) → IsLaidOut terms m ds rows → terms-2 ≡ terms → ds-2 ≡ ds → n.entries ≡ m.entries
+    → more ≡ rows ++ x ∷ [] → more ≡ less ++ y ∷ [] → IsLaidOut terms-2 n ds-2 less
+after_failure {terms} {terms-2} {m} {n} {ds} {ds-2} {rows} {more} {less} x y is a b e f g = record {
+  table = at_lists a b (same_table terms m n ds e is.table);
+  laid = laid_at a b (taken_back rows more less x y f g) is.laid;
+}
 
 -- ---- a row more
 
@@ -73,7 +83,7 @@ pub row_defined : (x : TermOf TypeRef) → is_defined x ≡ true → row_of x No
 row_defined (t.Defined path name local) e = refl
 row_defined _ e = absurd (search (rules, e))
 
-row_told : (x : TermOf TypeRef) (d : DefinitionOf TypeRef) → is_defined x ≡ true → row_of x (Some d) ≡ r.Defined (Some d.underlying.0)
+pub row_told : (x : TermOf TypeRef) (d : DefinitionOf TypeRef) → is_defined x ≡ true → row_of x (Some d) ≡ r.Defined (Some d.underlying.0)
 row_told (t.Defined path name local) d e = refl
 row_told _ d e = absurd (search (rules, e))
 

@@ -157,7 +157,8 @@ impl Rows {
         ensures err { OnErr result (self.new ≡ self.old) }
     {
         let number = definition.of.0 as usize;
-        self.layouts.define(number, definition.underlying.0 as usize)?;
+        self.layouts
+            .define(number, definition.underlying.0 as usize)?;
         self.definitions[number] = Some(definition);
         Ok(())
     }

@@ -29,11 +29,11 @@ define-requires-clause-of c =
     let laid = c.self.invariant.laid.size in
     omega (arith, under, size, laid)
 
-pub invariant_of-self-in_err-define : goal.invariant_of-self-in_err-define
-invariant_of-self-in_err-define c = record { table = c.self.invariant.table; laid = laid_at refl refl c.in_err-define.ensures.err c.self.invariant.laid }
-
 pub invariant_of-self : goal.invariant_of-self
-invariant_of-self c =
+invariant_of-self c = record { table = c.self.invariant.table; laid = laid_at refl refl c.in_err-define.ensures.err c.self.invariant.laid }
+
+pub invariant_of-self-2 : goal.invariant_of-self-2
+invariant_of-self-2 c =
     let at = asked c (λ v. Below (length v.types) c.args.definition.of) c.requires.of in
     let defined = asked c (λ v. is_defined (term_of (type_at v.types c.args.definition.of)) ≡ true) c.requires.defined in
     let x = defined_term c.self.inside.terms.items c.self.inside.numbers c.self.inside.definitions.items c.self.inside.layouts c.self.invariant c.args.definition.of at defined in

@@ -8,7 +8,7 @@ use Rattle.gno_type_table.specs.RowTypes.{IsGood, deeps, definitions_in}
 use Rattle.gno_type_table.proofs.Steps.{same_table, at_lists, pushed_table, pushed_is, pushed_grows, pushed_definitions}
 use Rattle.gno_layouts.specs.declared.row.Row.{Row}
 use Rattle.gno_layouts.specs.Settling.{AreRows}
-use Rattle.gno_type_table.proofs.Laying.{laid_at, laid_push, row_below, taken_back}
+use Rattle.gno_type_table.proofs.Laying.{laid_at, laid_push, row_below, after_failure}
 use Rattle.gno_type_table.proofs.rows.Rows.push.Goals as goal
 
 pub push-requires : goal.push-requires
@@ -21,18 +21,27 @@ pub pop-requires : goal.pop-requires
 pop-requires c = (c.self.inside.layouts, c.in_ok-row.row, c.in_ok-push.ensures.ok, c.have_rows.ensures)
 
 pub invariant_of-self-in-Err : goal.invariant_of-self-in-Err
-invariant_of-self-in-Err c = record {
-  table = at_lists c.in_ok-reserve.ensures.items c.in_ok-reserve-2.ensures.items (same_table c.self.inside.terms.items c.self.inside.numbers c.insert.new.self c.self.inside.definitions.items c.in-Err.ensures.err c.self.invariant.table);
-  laid = laid_at c.in_ok-reserve.ensures.items c.in_ok-reserve-2.ensures.items (taken_back c.self.inside.layouts c.push.new.self c.pop.new.self c.in_ok-row.row c.pop.ensures.0 c.in_ok-push.ensures.ok c.pop.ensures.1) c.self.invariant.laid;
-}
+invariant_of-self-in-Err c = after_failure c.in_ok-row.row c.pop.ensures.0 c.self.invariant c.in_ok-reserve.ensures.items c.in_ok-reserve-2.ensures.items c.in-Err.ensures.err c.in_ok-push.ensures.ok c.pop.ensures.1
 
-items : (c : goal.In_ok-push-3) → c.push-2.new.self.items ≡ c.self.inside.terms.items ++ c.args.term ∷ []
-items c = cc (c.in_ok-push-2.ensures.items, c.in_ok-reserve.ensures.items)
+pub invariant_of-self-in-Err-2 : goal.invariant_of-self-in-Err-2
+invariant_of-self-in-Err-2 c = after_failure c.in_ok-row.row c.pop.ensures.0 c.self.invariant c.in_ok-reserve.ensures.items c.in_ok-reserve-2.ensures.items c.in-Err.ensures.err c.in_ok-push.ensures.ok c.pop.ensures.1
 
-beside : (c : goal.In_ok-push-3) → c.push-3.new.self.items ≡ c.self.inside.definitions.items ++ None ∷ []
-beside c = cc (c.in_ok-push-3.ensures.items, c.in_ok-reserve-2.ensures.items)
+pub invariant_of-self-in-Err-3 : goal.invariant_of-self-in-Err-3
+invariant_of-self-in-Err-3 c = after_failure c.in_ok-row.row c.pop.ensures.0 c.self.invariant c.in_ok-reserve.ensures.items c.in_ok-reserve-2.ensures.items c.in-Err.ensures.err c.in_ok-push.ensures.ok c.pop.ensures.1
 
-count : (c : goal.In_ok-push-3) → c.len-number.result ≡ length c.self.inside.terms.items
+pub invariant_of-self-in-Err-4 : goal.invariant_of-self-in-Err-4
+invariant_of-self-in-Err-4 c = after_failure c.in_ok-row.row c.pop.ensures.0 c.self.invariant c.in_ok-reserve.ensures.items c.in_ok-reserve-2.ensures.items c.in-Err.ensures.err c.in_ok-push.ensures.ok c.pop.ensures.1
+
+pub invariant_of-self-in-Err-5 : goal.invariant_of-self-in-Err-5
+invariant_of-self-in-Err-5 c = after_failure c.in_ok-row.row c.pop.ensures.0 c.self.invariant c.in_ok-reserve.ensures.items c.in_ok-reserve-2.ensures.items c.in-Err.ensures.err c.in_ok-push.ensures.ok c.pop.ensures.1
+
+items : (c : goal.In_ok-push-in-Ok-2) → c.push-in-Ok.new.self.items ≡ c.self.inside.terms.items ++ c.args.term ∷ []
+items c = cc (c.in_ok-push-in-Ok.ensures.items, c.in_ok-reserve.ensures.items)
+
+beside : (c : goal.In_ok-push-in-Ok-2) → c.push-in-Ok-2.new.self.items ≡ c.self.inside.definitions.items ++ None ∷ []
+beside c = cc (c.in_ok-push-in-Ok-2.ensures.items, c.in_ok-reserve-2.ensures.items)
+
+count : (c : goal.In_ok-push-in-Ok-2) → c.len-number.result ≡ length c.self.inside.terms.items
 count c = c.len-number.ensures ∙ c.in_ok-reserve.ensures.len ∙ c.self.inside.terms.ok.0
 
 pub invariant_of-self-in-Ok : goal.invariant_of-self-in-Ok
@@ -48,21 +57,21 @@ invariant_of-self-in-Ok c = record {
       (laid_push c.self.inside.terms.items c.self.inside.definitions.items c.self.inside.layouts c.self.invariant.laid c.self.invariant.table.definitions.size c.args.term);
 }
 
-pub returns-in-Ok-clause-is : goal.returns-in-Ok-clause-is
-returns-in-Ok-clause-is c =
+pub returns-in_ok-push-in-Ok-2-clause-is : goal.returns-in_ok-push-in-Ok-2-clause-is
+returns-in_ok-push-in-Ok-2-clause-is c =
     subst (λ (l : List (TermOf TypeRef)). slice_get (deeps l []) c.len-number.result ≡ Some (deep c.args.self.now.types c.args.term)) (sym (items c))
     (subst (λ (v : Table). slice_get (deeps (c.self.inside.terms.items ++ c.args.term ∷ []) []) c.len-number.result ≡ Some (deep v.types c.args.term)) c.self.view_is
     (pushed_is c.self.inside.terms.items c.self.inside.numbers c.insert.new.self c.self.inside.definitions.items c.args.term c.args.key c.len-number.result c.self.invariant.table (count c)))
 
-pub returns-in-Ok-clause-grows : goal.returns-in-Ok-clause-grows
-returns-in-Ok-clause-grows c r s h =
+pub returns-in_ok-push-in-Ok-2-clause-grows : goal.returns-in_ok-push-in-Ok-2-clause-grows
+returns-in_ok-push-in-Ok-2-clause-grows c r s h =
     subst (λ (l : List (TermOf TypeRef)). slice_get (deeps l []) r.0 ≡ Some s) (sym (items c))
     (pushed_grows c.self.inside.terms.items c.self.inside.numbers c.insert.new.self c.self.inside.definitions.items c.args.term c.args.key c.len-number.result c.self.invariant.table r.0 s
     (subst (λ (v : Table). Is v r s) (sym c.self.view_is) h))
 
-pub returns-in-Ok-clause-definitions : goal.returns-in-Ok-clause-definitions
-returns-in-Ok-clause-definitions c =
-    ap (λ (l : List (TermOf TypeRef)). definitions_in (deeps l []) c.push-3.new.self.items) (items c)
+pub returns-in_ok-push-in-Ok-2-clause-definitions : goal.returns-in_ok-push-in-Ok-2-clause-definitions
+returns-in_ok-push-in-Ok-2-clause-definitions c =
+    ap (λ (l : List (TermOf TypeRef)). definitions_in (deeps l []) c.push-in-Ok-2.new.self.items) (items c)
     ∙ ap (λ (l : List (Option (DefinitionOf TypeRef))). definitions_in (deeps (c.self.inside.terms.items ++ c.args.term ∷ []) []) l) (beside c)
     ∙ pushed_definitions c.self.inside.terms.items c.self.inside.numbers c.insert.new.self c.self.inside.definitions.items c.args.term c.args.key c.len-number.result c.self.invariant.table
     ∙ ap (λ (v : Table). v.definitions) c.self.view_is
