@@ -9,3 +9,6 @@ mod settling;
 
 pub use layouts::Layouts;
 pub use row::{Layout, Row};
+
+#[cfg(test)]
+mod tests;
