@@ -56,3 +56,20 @@ fn an_error_is_an_interface(rt: HostRuntime) -> Result<(), Fail> {
     assert!(rt; methods == 1);
     Ok(())
 }
+
+fn holding(table: &TypeTable, t: TypeRef, kind: Kind) -> (u64, bool)
+    requires is { Is table.now t (type_of (term.Basic kind)) }
+    requires below { Below (length table.now.types) t }
+{
+    (table.slots(t), table.comparable(t))
+}
+
+#[test]
+fn an_integer_is_one_slot_and_compares(rt: HostRuntime) -> Result<(), Fail> {
+    let mut table = TypeTable::new(rt.alloc())?;
+    let int = basic(&mut table, Kind::Int)?;
+    let (slots, comparable) = holding(&table, int, Kind::Int);
+    assert!(rt; slots == 1);
+    assert!(rt; comparable);
+    Ok(())
+}
