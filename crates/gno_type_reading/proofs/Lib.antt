@@ -1,0 +1,11 @@
+pub mod Leads
+pub mod Fine
+pub mod Words
+pub mod Cuts
+pub mod Opened
+pub mod Lists
+pub mod Comes
+pub mod ParamLists
+pub mod FieldLists
+pub mod MethodLists
+pub mod Complete

@@ -1,0 +1,4 @@
+//! Types read from their texts.
+#![tactic(auto)]
+
+mod frame;
