@@ -20,9 +20,10 @@ use Rattle.gno_terms.proofs.Fields.{text_of_field, text_of_method}
 use Rattle.gno_type_reading.specs.declared.frame.FrameOf.{FrameOf}
 use Rattle.gno_type_reading.specs.declared.frame.FrameOf.TheVariants as frame
 use Rattle.gno_type_reading.specs.declared.frame.ActionOf.TheVariants as act
+use Rattle.gno_type_reading.specs.Known.{MayStand}
 use Rattle.gno_type_reading.specs.TypeTexts.{IsTypeText}
 use Rattle.gno_type_reading.specs.Turns.{turn, opened, closed, fields, methods, params, results}
-use Rattle.gno_type_reading.proofs.Leads.{IsOkay, Leads, LeadsTo, ActsTo, wants, has, by_opening, by_closing, makes}
+use Rattle.gno_type_reading.proofs.Leads.{Leads, LeadsTo, ActsTo, wants, has, by_opening, by_closing, makes}
 use Rattle.gno_type_reading.proofs.Fine.{Fine, AllFine, fine, nothing, and, fine_text}
 use Rattle.gno_type_reading.proofs.Comes.{Comes}
 use Rattle.gno_type_reading.proofs.Opened.{opened_kind, opened_error, opened_realm, opened_defined, opened_pointer, opened_slice, opened_array, opened_map, opened_function, opened_struct, opened_interface}
@@ -60,7 +61,7 @@ braced xs ys r e = append_assoc (joined (codes "; ") xs) (codes "}") r ∙ ap (�
 
 module _ (table : Table) (s : GoType) where
   -- the text of a term whose parts' texts lead to the parts
-  term_comes : (x : TermOf GoType) → IsOkay table x → IsPlain x → Each Plain (parts x) → Each (Comes table s) (parts x) → (p : GoType) → normal (type_of x) ≡ p
+  term_comes : (x : TermOf GoType) → MayStand table x → IsPlain x → Each Plain (parts x) → Each (Comes table s) (parts x) → (p : GoType) → normal (type_of x) ≡ p
       → (frames : List (FrameOf GoType)) (r : List ℕ) → ends r ≡ true → LeadsTo table s (has frames p r) → LeadsTo table s (wants frames (term_text (texts x) ++ r))
   term_comes (t.Basic kind) okay is own comes p n frames r e h = by_opening table s frames _ (turn (act.Made (t.Basic kind)) r) (opened_kind kind r e) (makes table s (t.Basic kind) p frames r okay n h)
   term_comes t.UntypedBool okay is own comes p n frames r e h = absurd is

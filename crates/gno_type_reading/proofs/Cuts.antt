@@ -1,5 +1,5 @@
 -- What stands on both sides of the last such byte, and what digits spell.
-use Rattle.std.proofs.Common.{◌≡◌, refl, ap, sym, ◌∙◌, true≢false, ℕ, ◌+◌, ◌-◌, ◌*◌, ◌<◌, ◌≤◌, ◌^◌, Bool, true, false, not, ◌&&◌, ◌==◌, nat_lt, cond, arith, List, [], ◌∷◌, ◌++◌, append-nil, Option, Some, None, inl, inr}
+use Rattle.std.proofs.Common.{◌≡◌, refl, ap, ap₂, sym, ◌∙◌, true≢false, ℕ, suc, length, get_or, take, drop, ◌+◌, ◌-◌, ◌*◌, ◌<◌, ◌≤◌, ◌^◌, Bool, true, false, not, ◌&&◌, ◌==◌, nat_lt, cond, arith, List, [], ◌∷◌, ◌++◌, append-nil, Option, Some, None, inl, inr}
 use Rattle.std.specs.Fmt.{decimal}
 use Rattle.std.specs.List.{list_all}
 use Rattle.std.specs.Char.{digit_value}
@@ -7,6 +7,8 @@ use Rattle.std.specs.Str.Parse.{AllDigits, digits_value_after}
 use Rattle.std.proofs.lemmas.Bool.{and_parts, and_from}
 use Rattle.std.proofs.lemmas.Bool.Decides.{nat_tests}
 use Rattle.std.proofs.lemmas.Fmt.{decimal_is_IsNumeral}
+use Rattle.std.proofs.lemmas.List.{take-append-drop}
+use Rattle.std.proofs.Math.Seq.{drop-cons}
 use Rattle.gno_base.specs.Callers.{is_digit}
 use Rattle.gno_scan.specs.Names.{IsName}
 use Rattle.gno_terms.specs.Lawful.{IsPath}
@@ -16,13 +18,13 @@ use Rattle.gno_terms.proofs.Bytes.{in_name, in_member}
 use Rattle.gno_terms.proofs.NameBytes.{name_bytes}
 use Rattle.gno_terms.proofs.Members.{IsPackage, all_member, decimal_digits}
 use Rattle.gno_type_reading.specs.declared.frame.Member.{Member}
-use Rattle.gno_type_reading.specs.Turns.{Halves, further, cut_here, cut, member, member_by, digit_fits, number_after}
+use Rattle.gno_type_reading.specs.Turns.{Halves, further, cut_here, halves_at, cut, member, member_by, digit_fits, number_after}
 
 abbrev halves : List ℕ → List ℕ → Halves
 halves front back = record { front = front; back = back }
 
 module _ (c : ℕ) where
-  abbrev other : ℕ → Bool
+  abbrev pub other : ℕ → Bool
   other b = not (b == c)
 
   no_cut : (b : Bool) (bs : List ℕ) → not b ≡ true → cond b (Some (halves [] bs)) None ≡ None
@@ -42,7 +44,19 @@ module _ (c : ℕ) where
   cut_at [] back e = ap (λ o. cut_here c c back (further c o)) (uncut back e) ∙ here back
   cut_at (b ∷ front) back e = ap (λ o. cut_here c b (front ++ (c ∷ back)) (further b o)) (cut_at front back e)
 
-abbrev member_of : List ℕ → List ℕ → Member
+  -- the byte stands here, and not behind
+  pub cut_found : (text : List ℕ) (at b : ℕ) → at < length text → get_or text at b ≡ c → list_all other (drop (at + 1) text) ≡ true → cut c text ≡ Some (halves_at text at)
+  cut_found text at b h e all =
+      let next : suc at ≡ at + 1 = omega arith in
+      ap (cut c) (sym (take-append-drop at text) ∙ ap (λ l. take at text ++ l) (drop-cons text at b h ∙ ap₂ (λ x n. x ∷ drop n text) e next)) ∙ cut_at (take at text) (drop (at + 1) text) all
+
+  -- nor does it stand here
+  pub none_here : (text : List ℕ) (at b : ℕ) → at < length text → (get_or text at b == c) ≡ false → list_all other (drop (at + 1) text) ≡ true → list_all other (drop at text) ≡ true
+  none_here text at b h e all =
+      let next : suc at ≡ at + 1 = omega arith in
+      ap (list_all other) (drop-cons text at b h ∙ ap (λ n. get_or text at b ∷ drop n text) next) ∙ and_from (other (get_or text at b)) (list_all other (drop (at + 1) text)) (ap not e) all
+
+abbrev pub member_of : List ℕ → List ℕ → Member
 member_of name path = record { name = name; «package» = path }
 
 no_point : (b : ℕ) → in_name b ≡ true → not (b == 46) ≡ true

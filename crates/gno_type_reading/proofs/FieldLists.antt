@@ -19,14 +19,11 @@ use Rattle.gno_type_reading.specs.declared.frame.FrameOf.TheVariants as frame
 use Rattle.gno_type_reading.specs.declared.frame.ActionOf.TheVariants as act
 use Rattle.gno_type_reading.specs.Turns.{Turn, turn, closed, field, fields, member, word_at, behind_word, begins_with, in_word}
 use Rattle.gno_type_reading.proofs.Leads.{LeadsTo, ActsTo, wants, has, by_closing}
-use Rattle.gno_type_reading.proofs.Lists.{behind, joined_behind}
+use Rattle.gno_type_reading.proofs.Separated.{behind, joined_behind}
 use Rattle.gno_type_reading.proofs.Comes.{Comes}
-use Rattle.gno_type_reading.proofs.Cuts.{member_is}
+use Rattle.gno_type_reading.proofs.Cuts.{member_is, member_of}
 use Rattle.gno_type_reading.proofs.Opened.{begins_other}
-use Rattle.gno_type_reading.proofs.Words.{front_word, behind_front}
-
-abbrev pub member_of : List ℕ → List ℕ → Member
-member_of name path = record { name = name; «package» = path }
+use Rattle.gno_type_reading.proofs.FrontWords.{front_word, behind_front}
 
 -- a member's text at the front
 pub front_member : (name path r : List ℕ) → IsMember name path → stops in_word r ≡ true → member (word_at (member_text name path ++ r)) ≡ member_of name path

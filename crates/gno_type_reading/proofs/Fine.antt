@@ -15,7 +15,7 @@ use Rattle.gno_terms.proofs.Parts.{Each-map, parts_with}
 use Rattle.gno_terms.proofs.Plain.{IsPlain, Plain, Plains, plain, no_plain, one_more}
 use Rattle.gno_type_reading.specs.TypeTexts.{IsDefinedBy, OverDefined, AllOverDefined, IsTypeText}
 use Rattle.gno_type_reading.specs.TypeTexts as over
-use Rattle.gno_type_reading.proofs.Leads.{IsOkay}
+use Rattle.gno_type_reading.specs.Known.{MayStand}
 
 abbrev IsNormal : GoType → Type 0
 IsNormal s = normal s ≡ s
@@ -46,7 +46,7 @@ normal_parts s e h =
 -- what is known of a type, and of each of its parts
 mutual
   pub data Fine (table : Table) : GoType → Type 0 where
-    fine : {s : GoType} → IsOkay table (term_of s) → IsPlain (term_of s) → IsNormal s → AllFine table (parts (term_of s)) → Fine table s
+    fine : {s : GoType} → MayStand table (term_of s) → IsPlain (term_of s) → IsNormal s → AllFine table (parts (term_of s)) → Fine table s
 
   pub data AllFine (table : Table) : List GoType → Type 0 where
     nothing : AllFine table []

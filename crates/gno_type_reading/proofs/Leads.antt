@@ -2,11 +2,10 @@
 use Rattle.std.proofs.Common.{◌≡◌, ℕ, zero, suc, List, [], ◌∷◌, false, sym, subst}
 use Rattle.gno_terms.specs.declared.term.GoType.{GoType}
 use Rattle.gno_terms.specs.declared.term.TermOf.{TermOf}
-use Rattle.gno_terms.specs.Lawful.{IsLawful, is_untyped}
 use Rattle.gno_terms.specs.Normal.{normal}
 use Rattle.gno_terms.specs.Tables.{Table}
 use Rattle.gno_terms.specs.Terms.{type_of}
-use Rattle.gno_type_reading.specs.TypeTexts.{IsDefinedBy}
+use Rattle.gno_type_reading.specs.Known.{MayStand}
 use Rattle.gno_type_reading.specs.Turns.{Turn, turn, opened, closed}
 use Rattle.gno_type_reading.specs.declared.frame.FrameOf.{FrameOf}
 use Rattle.gno_type_reading.specs.declared.frame.ActionOf.{ActionOf}
@@ -17,15 +16,9 @@ pub data State : Type 0 where
   wants : List (FrameOf GoType) → List ℕ → State
   has : List (FrameOf GoType) → GoType → List ℕ → State
 
--- the table may take such a term
-pub record IsOkay (table : Table) (x : TermOf GoType) : Type 0 where
-  pub lawful : IsLawful x
-  pub typed : is_untyped x ≡ false
-  pub known : IsDefinedBy table x
-
 abbrev pub Acts : Table → (State → Type 0) → List (FrameOf GoType) → ActionOf GoType → List ℕ → Type 0
 Acts table goes frames (act.Opened f) text = goes (wants (f ∷ frames) text)
-Acts table goes frames (act.Made x) text = IsOkay table x × goes (has frames (normal (type_of x)) text)
+Acts table goes frames (act.Made x) text = MayStand table x × goes (has frames (normal (type_of x)) text)
 Acts table goes frames act.Refused text = ⊥
 
 -- in fewer turns than n the type is read
@@ -59,5 +52,5 @@ module _ (table : Table) (s : GoType) where
   pub opens : (f : FrameOf GoType) (frames : List (FrameOf GoType)) (text : List ℕ) → LeadsTo (wants (f ∷ frames) text) → ActsTo frames (turn (act.Opened f) text)
   opens f frames text h = h
 
-  pub makes : (x : TermOf GoType) (of : GoType) (frames : List (FrameOf GoType)) (text : List ℕ) → IsOkay table x → normal (type_of x) ≡ of → LeadsTo (has frames of text) → ActsTo frames (turn (act.Made x) text)
+  pub makes : (x : TermOf GoType) (of : GoType) (frames : List (FrameOf GoType)) (text : List ℕ) → MayStand table x → normal (type_of x) ≡ of → LeadsTo (has frames of text) → ActsTo frames (turn (act.Made x) text)
   makes x of frames text okay e h = (h.0, (okay, subst (λ (of : GoType). Leads table s h.0 (has frames of text)) (sym e) h.1))

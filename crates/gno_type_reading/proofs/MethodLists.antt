@@ -18,9 +18,10 @@ use Rattle.gno_type_reading.specs.declared.frame.FrameOf.TheVariants as frame
 use Rattle.gno_type_reading.specs.declared.frame.ActionOf.TheVariants as act
 use Rattle.gno_type_reading.specs.Turns.{Turn, turn, closed, opened, methods, member, word_at, behind_word, begins_with, method_with_type, params}
 use Rattle.gno_type_reading.proofs.Leads.{LeadsTo, ActsTo, wants, has, by_closing, alike}
-use Rattle.gno_type_reading.proofs.Lists.{behind, joined_behind}
+use Rattle.gno_type_reading.proofs.Separated.{behind, joined_behind}
 use Rattle.gno_type_reading.proofs.Comes.{Comes}
-use Rattle.gno_type_reading.proofs.FieldLists.{member_of, front_member, behind_member, member_not}
+use Rattle.gno_type_reading.proofs.Cuts.{member_of}
+use Rattle.gno_type_reading.proofs.FieldLists.{front_member, behind_member, member_not}
 use Rattle.gno_type_reading.proofs.Opened.{opened_function, opened_bare}
 
 -- the text of a function is `func(` and what stands behind it

@@ -22,7 +22,7 @@ use Rattle.gno_type_reading.specs.declared.frame.FrameOf.{FrameOf}
 use Rattle.gno_type_reading.specs.declared.frame.FrameOf.TheVariants as frame
 use Rattle.gno_type_reading.specs.declared.frame.ActionOf.TheVariants as act
 use Rattle.gno_type_reading.specs.Turns.{Turn, turn, opened, first_word, params, fields, methods, word_at, behind_word, begins_with, in_word, in_name, sized, defined, defined_by, numbered, number_after, member, cut, worded}
-use Rattle.gno_type_reading.proofs.Words.{front_word, behind_front}
+use Rattle.gno_type_reading.proofs.FrontWords.{front_word, behind_front}
 use Rattle.gno_type_reading.proofs.Cuts.{member_is, number_is, cut_local, uncut_member}
 
 -- a text that begins so begins with no other byte

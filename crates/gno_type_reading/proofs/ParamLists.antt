@@ -18,7 +18,7 @@ use Rattle.gno_type_reading.specs.declared.frame.FrameOf.TheVariants as frame
 use Rattle.gno_type_reading.specs.declared.frame.ActionOf.TheVariants as act
 use Rattle.gno_type_reading.specs.Turns.{Turn, turn, closed, opened, params, results, further_param, further_result, begins_with}
 use Rattle.gno_type_reading.proofs.Leads.{LeadsTo, ActsTo, wants, has, by_closing, alike}
-use Rattle.gno_type_reading.proofs.Lists.{behind, joined_behind}
+use Rattle.gno_type_reading.proofs.Separated.{behind, joined_behind}
 use Rattle.gno_type_reading.proofs.Comes.{Comes}
 use Rattle.gno_type_reading.proofs.Opened.{begins_other, opened_slice, opened_dots}
 

@@ -47,6 +47,10 @@ pub record Halves : Type 0 where
   pub front : List ℕ
   pub back : List ℕ
 
+-- what stands before a byte, and behind it
+abbrev pub halves_at : List ℕ → ℕ → Halves
+halves_at text at = record { front = take at text; back = drop (at + 1) text }
+
 abbrev pub further : ℕ → Option Halves → Option Halves
 further b None = None
 further b (Some halves) = Some (record { front = b ∷ halves.front; back = halves.back })

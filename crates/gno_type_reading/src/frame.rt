@@ -1,6 +1,6 @@
 // Types that are read, and what to do next.
 use gno_base::{Bytes, List};
-use gno_terms::{FieldOf, MethodOf, TermOf};
+use gno_terms::{FieldOf, MethodOf, TermOf, TypeRef};
 
 /// The name of a field or a method, with the path of its package where one stands before it.
 #[derive(Drop)]
@@ -40,3 +40,9 @@ pub(crate) enum ActionOf<T> {
     /// No type has such a text.
     Refused,
 }
+
+/// A type by its number in a table, of which a part is read next.
+pub(crate) type Frame = FrameOf<TypeRef>;
+
+/// What the bytes at hand say, over a table.
+pub(crate) type Action = ActionOf<TypeRef>;

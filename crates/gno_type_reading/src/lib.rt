@@ -1,4 +1,12 @@
 //! Types read from their texts.
 #![tactic(auto)]
 
+mod close;
+mod cursor;
 mod frame;
+mod guess;
+mod lawful;
+mod lists;
+mod names;
+mod open;
+mod words;

@@ -115,6 +115,14 @@ impl TypeTable {
         self.rows.undefine(path);
     }
 
+    /// Whether a declaration defines the type. Takes constant time.
+    pub fn is_defined(&self, t: TypeRef) -> bool
+        requires { Below (length self.now.types) t }
+        ensures { (s : GoType) → Is self.now t s → IsTrue result ↔ ((d : DefinitionOf GoType) × Defines self.now d × (d.of ≡ s)) }
+    {
+        self.rows.definition(t).is_some()
+    }
+
     /// The underlying type of a type that is no defined one, or is defined. Go specification, "Underlying types".
     pub fn underlying(&self, t: TypeRef) -> TypeRef
         requires below { Below (length self.now.types) t }
