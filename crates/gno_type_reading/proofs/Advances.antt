@@ -1,5 +1,5 @@
 -- What is said takes bytes.
-use Rattle.std.proofs.Common.{◌≡◌, refl, ap, sym, subst, ◌∙◌, true≢false, ℕ, zero, suc, ◌+◌, ◌-◌, ◌*◌, ◌<◌, ◌≤◌, Bool, true, false, cond, arith, List, [], ◌∷◌, ◌++◌, length, length-drop, take, drop, Option, Some, None}
+use Rattle.std.proofs.Common.{◌≡◌, refl, ap, sym, subst, true≢false, ℕ, zero, suc, ◌<◌, ◌≤◌, Bool, true, false, cond, arith, List, [], ◌∷◌, ◌++◌, length, length-drop, take, drop, Option, Some, None}
 use Rattle.std.specs.Prelude.{⊤, codes}
 use Rattle.std.specs.List.{list_all, prefix_len}
 use Rattle.std.specs.Str.{bytes_eq}
@@ -26,6 +26,21 @@ not_empty c (b ∷ bs) e = omega arith
 abbrev is_empty : List ℕ → Bool
 is_empty [] = true
 is_empty (x ∷ xs) = false
+
+separator_within : (text : List ℕ) → length (past_separator text) ≤ length text
+separator_within text = at (begins_with 59 text) (shrinks 2 text)
+  where
+    at : (b : Bool) → length (drop 2 text) ≤ length text → length (cond b (drop 2 text) text) ≤ length text
+    at true h = h
+    at false h = omega arith
+
+less : {k m n : ℕ} → k ≤ m → m < n → k < n
+less h k = omega (arith, h, k)
+
+word_shorter : (n : ℕ) (b : ℕ) (bs text : List ℕ) → take n text ≡ b ∷ bs → length (drop n text) < length text
+word_shorter zero b bs text e = absurd (true≢false (ap is_empty e))
+word_shorter (suc n) b bs [] e = absurd (true≢false (ap is_empty e))
+word_shorter (suc n) b bs (x ∷ xs) e = past_some (suc n) (x ∷ xs) (omega arith) (omega arith)
 
 module _ {A : Type 0} where
   abbrev Within : ℕ → Turn A → Type 0
@@ -65,34 +80,6 @@ module _ {A : Type 0} where
       let word = shrinks (prefix_len in_word text) text in
       either n (begins_with 125 text) (turn (act.Made (t.Interface ms)) (drop 1 text)) (turn (act.Opened (frame.Method ms (member (word_at text)))) (behind_word text)) (omega (arith, one, h)) (omega (arith, word, h))
 
-  sized_within : (n : ℕ) (o : Option ℕ) (text : List ℕ) → length text ≤ n → Within n (sized o text)
-  sized_within n None text h = h
-  sized_within n (Some k) text h = h
-
-  bracketed_within : (n : ℕ) (text : List ℕ) → length text ≤ n → Within n (bracketed text)
-  bracketed_within n text h =
-      let one = shrinks 1 text in
-      let word = shrinks (prefix_len in_word text) text in
-      let two = shrinks 1 (behind_word text) in
-      either n (begins_with 93 text) (turn (act.Opened frame.Slice) (drop 1 text)) (sized (number_after 0 (word_at text)) (drop 1 (behind_word text))) (omega (arith, one, h))
-      (sized_within n (number_after 0 (word_at text)) (drop 1 (behind_word text)) (omega (arith, word, two, h)))
-
-  worded_within : (n : ℕ) (word text : List ℕ) → length text ≤ n → Within n (worded word text)
-  worded_within n word text h =
-      let one = shrinks 1 text in
-      let less : length (drop 1 text) ≤ n = omega (arith, one, h) in
-      either n (bytes_eq word (codes "map")) (turn (act.Opened frame.Key) (drop 1 text)) _ less
-      (either n (bytes_eq word (codes "func")) (params [] (drop 1 text)) _ (params_within n [] (drop 1 text) less)
-      (either n (bytes_eq word (codes "struct")) (fields [] (drop 1 text)) _ (fields_within n [] (drop 1 text) less)
-      (either n (bytes_eq word (codes "interface")) (methods [] (drop 1 text)) (turn (predeclared word) text) (methods_within n [] (drop 1 text) less) h)))
-
-  separator_within : (text : List ℕ) → length (past_separator text) ≤ length text
-  separator_within text = at (begins_with 59 text) (shrinks 2 text)
-    where
-      at : (b : Bool) → length (drop 2 text) ≤ length text → length (cond b (drop 2 text) text) ≤ length text
-      at true h = h
-      at false h = omega arith
-
   pub closed_within : (x : FrameOf A) (of : A) (text : List ℕ) → length (closed x of text).rest ≤ length text
   unfolding closed
   closed_within frame.Pointer of text = omega arith
@@ -110,7 +97,7 @@ module _ {A : Type 0} where
   closed_within (frame.Method ms m) of text = methods_within (length text) (ms ++ method_with_type m of ∷ []) (past_separator text) (separator_within text)
 
   -- fewer bytes are left, unless nothing is said
-  Fewer : ℕ → ActionOf A → ℕ → Type 0
+  abbrev pub Fewer : ℕ → ActionOf A → ℕ → Type 0
   Fewer n act.Refused k = ⊤
   Fewer n _ k = k < n
 
@@ -118,7 +105,6 @@ module _ {A : Type 0} where
   Shorter n t = Fewer n t.action (length t.rest)
 
   fewer : (n : ℕ) (x : ActionOf A) (k : ℕ) → k < n → Fewer n x k
-  unfolding Fewer
   fewer n (act.Opened f) k h = h
   fewer n (act.Made f) k h = h
   fewer n act.Refused k h = tt
@@ -127,46 +113,53 @@ module _ {A : Type 0} where
   choose n true t u h k = fewer n t.action (length t.rest) (h refl)
   choose n false t u h k = k refl
 
-  less : {k m n : ℕ} → k ≤ m → m < n → k < n
-  less h k = omega (arith, h, k)
+  wider : (n m : ℕ) (x : ActionOf A) (k : ℕ) → m ≤ n → Fewer m x k → Fewer n x k
+  wider n m (act.Opened f) k h s = omega (arith, h, s)
+  wider n m (act.Made f) k h s = omega (arith, h, s)
+  wider n m act.Refused k h s = tt
 
-  marked_shorter : (text : List ℕ) → Shorter (length text) (marked text)
-  unfolding Fewer
+module _ (A : Type 0) where
+  sized_within : (n : ℕ) (o : Option ℕ) (text : List ℕ) → length text ≤ n → Within n (sized {A = A} o text)
+  sized_within n None text h = h
+  sized_within n (Some k) text h = h
+
+  bracketed_within : (n : ℕ) (text : List ℕ) → length text ≤ n → Within n (bracketed {A = A} text)
+  bracketed_within n text h =
+      let one = shrinks 1 text in
+      let word = shrinks (prefix_len in_word text) text in
+      let two = shrinks 1 (behind_word text) in
+      either n (begins_with 93 text) (turn (act.Opened frame.Slice) (drop 1 text)) (sized (number_after 0 (word_at text)) (drop 1 (behind_word text))) (omega (arith, one, h))
+      (sized_within n (number_after 0 (word_at text)) (drop 1 (behind_word text)) (omega (arith, word, two, h)))
+
+  worded_within : (n : ℕ) (word text : List ℕ) → length text ≤ n → Within n (worded {A = A} word text)
+  worded_within n word text h =
+      let one = shrinks 1 text in
+      let less : length (drop 1 text) ≤ n = omega (arith, one, h) in
+      either n (bytes_eq word (codes "map")) (turn (act.Opened frame.Key) (drop 1 text)) _ less
+      (either n (bytes_eq word (codes "func")) (params [] (drop 1 text)) _ (params_within n [] (drop 1 text) less)
+      (either n (bytes_eq word (codes "struct")) (fields [] (drop 1 text)) _ (fields_within n [] (drop 1 text) less)
+      (either n (bytes_eq word (codes "interface")) (methods [] (drop 1 text)) (turn (predeclared word) text) (methods_within n [] (drop 1 text) less) h)))
+
+  marked_shorter : (text : List ℕ) → Shorter {A = A} (length text) (marked text)
   marked_shorter text =
       choose (length text) (begins_with 42 text) (turn (act.Opened frame.Pointer) (drop 1 text)) _ (λ e. past_some 1 text (not_empty 42 text e) (omega arith)) (λ _.
       choose (length text) (begins_with 91 text) (bracketed (drop 1 text)) _ (λ e. less (bracketed_within (length (drop 1 text)) (drop 1 text) (omega arith)) (past_some 1 text (not_empty 91 text e) (omega arith))) (λ _.
       choose (length text) (begins_with 40 text) (params [] (drop 1 text)) (turn act.Refused text) (λ e. less (params_within (length (drop 1 text)) [] (drop 1 text) (omega arith)) (past_some 1 text (not_empty 40 text e) (omega arith))) (λ _. tt)))
 
   -- behind a word
-  word_shorter : (n : ℕ) (b : ℕ) (bs text : List ℕ) → take n text ≡ b ∷ bs → length (drop n text) < length text
-  word_shorter zero b bs text e = absurd (true≢false (ap is_empty e))
-  word_shorter (suc n) b bs [] e = absurd (true≢false (ap is_empty e))
-  word_shorter (suc n) b bs (x ∷ xs) e = past_some (suc n) (x ∷ xs) (omega arith) (omega arith)
-
-  first_word_shorter : (n : ℕ) (word text : List ℕ) → length text ≤ n → ((b : ℕ) (bs : List ℕ) → word ≡ b ∷ bs → length text < n) → Shorter n (first_word word text)
-  first_word_shorter n [] text h k = wider (marked text) (marked_shorter text)
-    where
-      wider : (u : Turn A) → Shorter (length text) u → Shorter n u
-      wider u s = at u.action s
-        where
-          at : (x : ActionOf A) → Fewer (length text) x (length u.rest) → Fewer n x (length u.rest)
-          unfolding Fewer
-          at (act.Opened f) s = omega (arith, h, s)
-          at (act.Made f) s = omega (arith, h, s)
-          at act.Refused s = tt
+  first_word_shorter : (n : ℕ) (word text : List ℕ) → length text ≤ n → ((b : ℕ) (bs : List ℕ) → word ≡ b ∷ bs → length text < n) → Shorter {A = A} n (first_word word text)
+  first_word_shorter n [] text h k = wider n (length text) (marked text).action (length (marked {A = A} text).rest) h (marked_shorter text)
   first_word_shorter n (b ∷ bs) text h k =
       choose n (list_all in_name (b ∷ bs)) (worded (b ∷ bs) text) (turn (defined (b ∷ bs)) text) (λ _. less (worded_within (length text) (b ∷ bs) text (omega arith)) (k b bs refl)) (λ _. fewer n (defined (b ∷ bs)) (length text) (k b bs refl))
 
-  pub opened_shorter : (text : List ℕ) → Shorter (length text) (opened text)
+  pub opened_shorter : (text : List ℕ) → Shorter {A = A} (length text) (opened text)
   unfolding opened
   opened_shorter text =
       choose (length text) (begins_with 46 text) (turn (act.Opened frame.Slice) (drop 3 text)) _ (λ e. past_some 3 text (not_empty 46 text e) (omega arith))
       (λ _. first_word_shorter (length text) (word_at text) (behind_word text) (shrinks (prefix_len in_word text) text) (λ b bs e. word_shorter (prefix_len in_word text) b bs text e))
 
   pub opened_fewer : (text : List ℕ) (f : FrameOf A) (rest : List ℕ) → turn (act.Opened f) rest ≡ opened text → length rest < length text
-  unfolding Fewer
-  opened_fewer text f rest e = subst (Shorter (length text)) (sym e) (opened_shorter text)
+  opened_fewer text f rest e = subst (Shorter {A = A} (length text)) (sym e) (opened_shorter text)
 
   pub made_fewer : (text : List ℕ) (x : TermOf A) (rest : List ℕ) → turn (act.Made x) rest ≡ opened text → length rest < length text
-  unfolding Fewer
-  made_fewer text x rest e = subst (Shorter (length text)) (sym e) (opened_shorter text)
+  made_fewer text x rest e = subst (Shorter {A = A} (length text)) (sym e) (opened_shorter text)

@@ -22,8 +22,8 @@ use Rattle.gno_type_reading.specs.declared.frame.FrameOf.TheVariants as frame
 use Rattle.gno_type_reading.specs.declared.frame.ActionOf.TheVariants as act
 use Rattle.gno_type_reading.specs.Known.{MayStand}
 use Rattle.gno_type_reading.specs.TypeTexts.{IsTypeText}
-use Rattle.gno_type_reading.specs.Turns.{turn, opened, closed, fields, methods, params, results}
-use Rattle.gno_type_reading.proofs.Leads.{Leads, LeadsTo, ActsTo, wants, has, by_opening, by_closing, makes}
+use Rattle.gno_type_reading.specs.Turns.{turn, opened, closed, fields, methods, params}
+use Rattle.gno_type_reading.proofs.Leads.{LeadsTo, wants, has, by_opening, by_closing, makes}
 use Rattle.gno_type_reading.proofs.Fine.{Fine, AllFine, fine, nothing, and, fine_text}
 use Rattle.gno_type_reading.proofs.Comes.{Comes}
 use Rattle.gno_type_reading.proofs.Opened.{opened_kind, opened_error, opened_realm, opened_defined, opened_pointer, opened_slice, opened_array, opened_map, opened_function, opened_struct, opened_interface}

@@ -1,5 +1,5 @@
 -- What stands on both sides of the last such byte, and what digits spell.
-use Rattle.std.proofs.Common.{◌≡◌, refl, ap, ap₂, sym, ◌∙◌, true≢false, ℕ, suc, length, get_or, take, drop, ◌+◌, ◌-◌, ◌*◌, ◌<◌, ◌≤◌, ◌^◌, Bool, true, false, not, ◌&&◌, ◌==◌, nat_lt, cond, arith, List, [], ◌∷◌, ◌++◌, append-nil, Option, Some, None, inl, inr}
+use Rattle.std.proofs.Common.{◌≡◌, refl, ap, ap₂, sym, ◌∙◌, true≢false, ℕ, suc, length, get_or, take, drop, ◌+◌, ◌-◌, ◌*◌, ◌<◌, ◌≤◌, ◌^◌, Bool, true, false, not, ◌==◌, cond, arith, List, [], ◌∷◌, ◌++◌, Some, None}
 use Rattle.std.specs.Fmt.{decimal}
 use Rattle.std.specs.List.{list_all}
 use Rattle.std.specs.Char.{digit_value}
@@ -11,8 +11,7 @@ use Rattle.std.proofs.lemmas.List.{take-append-drop}
 use Rattle.std.proofs.Math.Seq.{drop-cons}
 use Rattle.gno_base.specs.Callers.{is_digit}
 use Rattle.gno_scan.specs.Names.{IsName}
-use Rattle.gno_terms.specs.Lawful.{IsPath}
-use Rattle.gno_terms.specs.Texts.{member_text, local_text}
+use Rattle.gno_terms.specs.Texts.{member_text}
 use Rattle.gno_terms.proofs.Words.{weaken}
 use Rattle.gno_terms.proofs.Bytes.{in_name, in_member}
 use Rattle.gno_terms.proofs.NameBytes.{name_bytes}

@@ -1,6 +1,5 @@
 -- The texts of fields lead to the struct.
 use Rattle.std.proofs.Common.{◌≡◌, refl, ap, ap₂, sym, subst, ◌∙◌, ℕ, Bool, true, false, cond, List, [], ◌∷◌, ◌++◌, append_assoc, codes, map, drop}
-use Rattle.std.specs.List.{list_all}
 use Rattle.gno_terms.specs.declared.term.GoType.{GoType}
 use Rattle.gno_terms.specs.declared.term.TermOf.TheVariants as t
 use Rattle.gno_terms.specs.declared.term.FieldOf.{FieldOf}
@@ -13,12 +12,11 @@ use Rattle.gno_terms.proofs.Members.{all_member, member_begins}
 use Rattle.gno_terms.proofs.Plain.{IsMember, IsPlainField}
 use Rattle.gno_terms.proofs.Joined.{ends}
 use Rattle.gno_terms.proofs.Fields.{text_of_field}
-use Rattle.gno_type_reading.specs.declared.frame.Member.{Member}
 use Rattle.gno_type_reading.specs.declared.frame.FrameOf.{FrameOf}
 use Rattle.gno_type_reading.specs.declared.frame.FrameOf.TheVariants as frame
 use Rattle.gno_type_reading.specs.declared.frame.ActionOf.TheVariants as act
 use Rattle.gno_type_reading.specs.Turns.{Turn, turn, closed, field, fields, member, word_at, behind_word, begins_with, in_word}
-use Rattle.gno_type_reading.proofs.Leads.{LeadsTo, ActsTo, wants, has, by_closing}
+use Rattle.gno_type_reading.proofs.Leads.{ActsTo, by_closing}
 use Rattle.gno_type_reading.proofs.Separated.{behind, joined_behind}
 use Rattle.gno_type_reading.proofs.Comes.{Comes}
 use Rattle.gno_type_reading.proofs.Cuts.{member_is, member_of}

@@ -1,9 +1,9 @@
 -- What is known of each part of a type that is read.
-use Rattle.std.proofs.Common.{◌≡◌, refl, ap, sym, subst, ◌∙◌, ℕ, false, List, [], ◌∷◌, map}
+use Rattle.std.proofs.Common.{◌≡◌, refl, ap, sym, subst, ◌∙◌, ℕ, false, List, [], ◌∷◌}
 use Rattle.gno_terms.specs.declared.term.GoType.{GoType}
 use Rattle.gno_terms.specs.declared.term.TermOf.{TermOf}
 use Rattle.gno_terms.specs.declared.term.TermOf.TheVariants as t
-use Rattle.gno_terms.specs.Lawful.{Each, IsLawful, IsTyped, LawfulType, LawfulTypes, lawful, none, more, is_untyped}
+use Rattle.gno_terms.specs.Lawful.{Each, LawfulType, LawfulTypes, lawful, none, more, is_untyped}
 use Rattle.gno_terms.specs.Normal.{normal, normal_term}
 use Rattle.gno_terms.specs.Tables.{Table}
 use Rattle.gno_terms.specs.Terms.{term_of, type_of, term_with, parts}

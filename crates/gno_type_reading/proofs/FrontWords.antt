@@ -1,9 +1,9 @@
 -- The word at the front of a text.
-use Rattle.std.proofs.Common.{◌≡◌, refl, ap, ap₂, sym, ◌∙◌, true≢false, ℕ, zero, suc, ◌+◌, Bool, true, false, not, cond, List, [], ◌∷◌, ◌++◌, length, take, drop, arith}
+use Rattle.std.proofs.Common.{◌≡◌, refl, ap, sym, ◌∙◌, true≢false, ℕ, suc, ◌+◌, Bool, true, false, not, cond, List, [], ◌∷◌, ◌++◌, length, take, drop, arith}
 use Rattle.std.specs.List.{list_all, prefix_len}
 use Rattle.std.proofs.lemmas.Bool.{and_parts}
 use Rattle.std.proofs.Math.Seq.{take-append_seam, drop-append_seam}
-use Rattle.gno_terms.proofs.Words.{begins, stops}
+use Rattle.gno_terms.proofs.Words.{stops}
 use Rattle.gno_type_reading.specs.Turns.{in_word, word_at, behind_word}
 
 none_counted : (b : Bool) (n : ℕ) → not b ≡ true → cond b (1 + n) 0 ≡ 0

@@ -1,5 +1,5 @@
 -- The turns of the loop that guesses a type.
-use Rattle.std.proofs.Common.{◌≡◌, refl, ap, ap₂, sym, subst, ◌∙◌, ℕ, zero, suc, ◌+◌, ◌*◌, ◌≤◌, ◌<◌, arith, List, [], ◌∷◌, ◌++◌, length, length-append, map, reverse, Option, Some, None}
+use Rattle.std.proofs.Common.{◌≡◌, refl, ap, ap₂, sym, subst, true≢false, true, false, ◌∙◌, ℕ, zero, suc, ◌+◌, ◌*◌, ◌≤◌, ◌<◌, arith, List, [], ◌∷◌, ◌++◌, length, length-append, map, reverse, Option, Some, None}
 use Rattle.std.specs.Prelude.{IfSome, ⊤}
 use Rattle.std.proofs.lemmas.List.{reverse-append, length-reverse}
 use Rattle.gno_terms.specs.declared.term.GoType.{GoType}
@@ -8,14 +8,14 @@ use Rattle.gno_terms.specs.declared.term.TermOf.{TermOf}
 use Rattle.gno_terms.specs.Lawful.{Each}
 use Rattle.gno_terms.specs.Normal.{normal}
 use Rattle.gno_terms.specs.Tables.{Table, Is, Grows, type_at, type_or, deep}
-use Rattle.gno_terms.specs.Terms.{type_of, term_with, parts}
+use Rattle.gno_terms.specs.Terms.{term_with, parts}
 use Rattle.gno_terms.proofs.Parts.{Each-weaken}
 use Rattle.gno_type_reading.specs.declared.frame.FrameOf.{FrameOf}
 use Rattle.gno_type_reading.specs.declared.frame.ActionOf.{ActionOf}
 use Rattle.gno_type_reading.specs.declared.frame.ActionOf.TheVariants as act
-use Rattle.gno_type_reading.specs.Frames.{frame_with, action_with, frame_parts, action_parts, Says}
+use Rattle.gno_type_reading.specs.Frames.{frame_with, action_with, frame_parts, action_parts, Says, is_open}
 use Rattle.gno_type_reading.specs.Known.{Known, MayStand}
-use Rattle.gno_type_reading.specs.Turns.{Turn, turn, opened, closed}
+use Rattle.gno_type_reading.specs.Turns.{Turn, turn, opened}
 use Rattle.gno_type_reading.specs.TypeTexts.{IsTypeText}
 use Rattle.gno_type_reading.proofs.Leads.{State, wants, has, Acts, Leads, LeadsTo, ActsTo}
 use Rattle.gno_type_reading.proofs.Through.{turn_with, opened_with, closed_with, frame_alike, opened_hold, closed_hold}
@@ -53,7 +53,7 @@ pub starts : (old : Table) (text : List ℕ) → Going old text old [] None text
 starts old text = record { grows = λ r s is. is; definitions = refl; frames = tt; part = tt; leads = λ s is. leads old text s is }
 
 -- something is open, or no part was read
-abbrev pub GoesOn : Frames → Option TypeRef → Type 0
+abbrev GoesOn : Frames → Option TypeRef → Type 0
 GoesOn frames None = ⊤
 GoesOn [] (Some of) = ⊥
 GoesOn (f ∷ frames) (Some of) = ⊤
@@ -140,7 +140,7 @@ refused_wrong old text table frames rest acting s is = (acting.acts s is).1
 
 pub made_wrong : (old : Table) (text : List ℕ) (table : Table) (frames : Frames) (x : TermOf TypeRef) (rest : List ℕ) → Acting old text table frames (act.Made x) rest
     → (MayStand table (term_with (type_at table.types) x) → ⊥) → (s : GoType) → IsTypeText old text s → ⊥
-made_wrong old text table frames x rest acting no s is = no (may_later old table acting.definitions (term_with (type_at table.types) x) (acting.acts s is).1.0)
+made_wrong old text table frames x rest acting wrong s is = wrong (may_later old table acting.definitions (term_with (type_at table.types) x) (acting.acts s is).1.0)
 
 pub ends_right : (old : Table) (text : List ℕ) (table : Table) (items : Frames) (r : TypeRef) (left : List ℕ) → items ≡ [] → Going old text table items (Some r) left → (s : GoType) → IsTypeText old text s → Is table r s
 ends_right old text table items r left e going s is = from h.0 h.1
@@ -177,10 +177,59 @@ lighter (x ∷ frames) (Some of) left action rest after goes says fewer =
 module _ (items after : Frames) (last : Option TypeRef) (left rest : List ℕ) (goes : GoesOn (reverse items) last) where
   pub opened_lighter : (f : FrameOf TypeRef) → Says (reverse items) last left (act.Opened f) rest (reverse after) → weight rest (after ++ f ∷ []) None < weight left items last
   opened_lighter f says =
-      let t = lighter (reverse items) last left (act.Opened f) rest (reverse after) goes says (opened_fewer left f rest) in
+      let t = lighter (reverse items) last left (act.Opened f) rest (reverse after) goes says (opened_fewer TypeRef left f rest) in
       omega (arith, t, length-reverse items, length-reverse after, length-append after (f ∷ []))
 
   pub made_lighter : (x : TermOf TypeRef) (r : TypeRef) → Says (reverse items) last left (act.Made x) rest (reverse after) → weight rest after (Some r) < weight left items last
   made_lighter x r says =
-      let t = lighter (reverse items) last left (act.Made x) rest (reverse after) goes says (made_fewer left x rest) in
+      let t = lighter (reverse items) last left (act.Made x) rest (reverse after) goes says (made_fewer TypeRef left x rest) in
       omega (arith, t, length-reverse items, length-reverse after)
+
+-- ---- the turns, as the code takes them
+
+some_open : (frames : Frames) (r : TypeRef) → 0 < length frames → GoesOn frames (Some r)
+some_open [] r h = absurd (omega (arith, h))
+some_open (x ∷ frames) r h = tt
+
+goes_by : (items : Frames) (last : Option TypeRef) → is_open items last ≡ true → GoesOn (reverse items) last
+goes_by items None e = tt
+goes_by [] (Some r) e = absurd (true≢false (sym e))
+goes_by (x ∷ items) (Some r) e = some_open (reverse (x ∷ items)) r (omega (arith, length-reverse (x ∷ items)))
+
+module _ (old : Table) (text : List ℕ) (table : Table) (items : Frames) (last : Option TypeRef) (left : List ℕ) (going : Going old text table items last left) where
+  pub ends : is_open items last ≡ false → (s : GoType) → IsTypeText old text s → (r : TypeRef) × (last ≡ Some r) × Is table r s
+  ends e s is = at items last e going
+    where
+      at : (items : Frames) (last : Option TypeRef) → is_open items last ≡ false → Going old text table items last left → (r : TypeRef) × (last ≡ Some r) × Is table r s
+      at items None e going = absurd (true≢false e)
+      at [] (Some r) e going = (r, refl, ends_right old text table [] r left refl going s is)
+      at (x ∷ items) (Some r) e going = absurd (true≢false e)
+
+  module _ (goes : is_open items last ≡ true) (action : ActionOf TypeRef) (rest : List ℕ) (after : Frames) (says : Says (reverse items) last left action rest (reverse after)) where
+    acting_of : (x : ActionOf TypeRef) → action ≡ x → Acting old text table (reverse after) x rest
+    acting_of x e = subst (λ (y : ActionOf TypeRef). Acting old text table (reverse after) y rest) e (says_acting old text table items last left action rest (reverse after) going (goes_by items last goes) says)
+
+    said_as : (x : ActionOf TypeRef) → action ≡ x → Says (reverse items) last left x rest (reverse after)
+    said_as x e = subst (λ (y : ActionOf TypeRef). Says (reverse items) last left y rest (reverse after)) e says
+
+    pub turn_opened : (f : FrameOf TypeRef) (now : Frames) → action ≡ act.Opened f → now ≡ after ++ f ∷ [] → Going old text table now None rest
+    turn_opened f now e d = subst (λ (l : Frames). Going old text table l None rest) (sym d) (opened_going old text table after f rest (acting_of (act.Opened f) e))
+
+    pub turn_opened_lighter : (f : FrameOf TypeRef) (now : Frames) → action ≡ act.Opened f → now ≡ after ++ f ∷ [] → weight rest now None < weight left items last
+    turn_opened_lighter f now e d = subst (λ (l : Frames). weight rest l None < weight left items last) (sym d) (opened_lighter items after last left rest (goes_by items last goes) f (said_as (act.Opened f) e))
+
+    pub turn_parts : (x : TermOf TypeRef) → action ≡ act.Made x → Each (Known table) (parts x)
+    turn_parts x e = (acting_of (act.Made x) e).parts
+
+    pub turn_made : (x : TermOf TypeRef) (later : Table) (r : TypeRef) → action ≡ act.Made x → later.definitions ≡ table.definitions → Grows table later → Known later r → Is later r (normal (deep table.types x))
+        → Going old text later after (Some r) rest
+    turn_made x later r e same grown known is = made_going old text table later after x rest same grown r (acting_of (act.Made x) e) known is
+
+    pub turn_made_lighter : (x : TermOf TypeRef) (r : TypeRef) → action ≡ act.Made x → weight rest after (Some r) < weight left items last
+    turn_made_lighter x r e = made_lighter items after last left rest (goes_by items last goes) x r (said_as (act.Made x) e)
+
+    pub turn_wrong : (x : TermOf TypeRef) → action ≡ act.Made x → (MayStand table (term_with (type_at table.types) x) → ⊥) → (s : GoType) → IsTypeText old text s → ⊥
+    turn_wrong x e wrong s is = made_wrong old text table (reverse after) x rest (acting_of (act.Made x) e) wrong s is
+
+    pub turn_refused : action ≡ act.Refused → (s : GoType) → IsTypeText old text s → ⊥
+    turn_refused e s is = refused_wrong old text table (reverse after) rest (acting_of act.Refused e) s is

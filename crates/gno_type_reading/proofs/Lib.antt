@@ -14,3 +14,4 @@ pub mod Advances
 pub mod Standing
 pub mod Going
 pub mod NameTests
+pub mod Lawfuls

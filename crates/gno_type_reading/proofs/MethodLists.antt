@@ -1,5 +1,5 @@
 -- The texts of methods lead to the interface.
-use Rattle.std.proofs.Common.{◌≡◌, refl, ap, ap₂, sym, subst, ◌∙◌, true≢false, ℕ, Bool, true, false, cond, List, [], ◌∷◌, ◌++◌, append_assoc, codes, map, drop}
+use Rattle.std.proofs.Common.{◌≡◌, refl, ap, ap₂, sym, subst, ◌∙◌, true≢false, ℕ, true, false, cond, List, [], ◌∷◌, ◌++◌, append_assoc, codes, map, drop}
 use Rattle.gno_terms.specs.declared.term.GoType.{GoType}
 use Rattle.gno_terms.specs.declared.term.TermOf.{TermOf}
 use Rattle.gno_terms.specs.declared.term.TermOf.TheVariants as t
@@ -16,8 +16,8 @@ use Rattle.gno_terms.proofs.Fields.{text_of_method}
 use Rattle.gno_type_reading.specs.declared.frame.FrameOf.{FrameOf}
 use Rattle.gno_type_reading.specs.declared.frame.FrameOf.TheVariants as frame
 use Rattle.gno_type_reading.specs.declared.frame.ActionOf.TheVariants as act
-use Rattle.gno_type_reading.specs.Turns.{Turn, turn, closed, opened, methods, member, word_at, behind_word, begins_with, method_with_type, params}
-use Rattle.gno_type_reading.proofs.Leads.{LeadsTo, ActsTo, wants, has, by_closing, alike}
+use Rattle.gno_type_reading.specs.Turns.{Turn, turn, closed, methods, member, word_at, behind_word, method_with_type}
+use Rattle.gno_type_reading.proofs.Leads.{LeadsTo, ActsTo, wants, by_closing, alike}
 use Rattle.gno_type_reading.proofs.Separated.{behind, joined_behind}
 use Rattle.gno_type_reading.proofs.Comes.{Comes}
 use Rattle.gno_type_reading.proofs.Cuts.{member_of}

@@ -1,12 +1,12 @@
 -- Names by tests.
-use Rattle.std.proofs.Common.{◌≡◌, refl, ap, ap₂, sym, subst, ◌∙◌, true≢false, ℕ, Bool, true, false, not, cond, ◌&&◌, List, [], ◌∷◌, ◌++◌, length, flat_map, Option, Some, None, ◌==◌, nat_le}
-use Rattle.std.specs.Prelude.{IsTrue, ◌↔◌, All}
+use Rattle.std.proofs.Common.{◌≡◌, refl, ap, sym, ◌∙◌, true≢false, ℕ, Bool, true, false, cond, List, [], ◌∷◌, ◌++◌, length, flat_map, Option, Some, None, ◌==◌, nat_le}
+use Rattle.std.specs.Prelude.{◌↔◌, All}
 use Rattle.std.specs.List.{list_all}
 use Rattle.std.specs.Char.{encode_utf8, IsScalar}
 use Rattle.std.specs.Str.{chars, IsUtf8}
 use Rattle.std.proofs.Math.Utf8.{encodes, scalars}
 use Rattle.std.proofs.lemmas.Bool.{and_parts, and_from}
-use Rattle.std.proofs.lemmas.List.Elements.{All-nil, All-cons}
+use Rattle.std.proofs.lemmas.List.Elements.{All-nil, All-cons, All-head, All-tail}
 use Rattle.std.proofs.lemmas.Str.{encodes-chars, scalars-chars, chars_from_encodes}
 use Rattle.gno_scan.specs.declared.kind.TokenKind.{TokenKind}
 use Rattle.gno_scan.specs.Fixed.{keyword_spelling}
@@ -48,10 +48,11 @@ same_encoding (c ∷ cs) = ap (λ l. encode_utf8 c ++ l) (same_encoding cs)
 
 all_scalars : (cs : List ℕ) → scalars cs ≡ true → All IsScalar cs
 all_scalars [] e = All-nil IsScalar
-all_scalars (c ∷ cs) e = ?
+all_scalars (c ∷ cs) e = let t = and_parts _ (scalars cs) e in All-cons IsScalar c cs t.0 (all_scalars cs t.1)
 
 are_scalars : (cs : List ℕ) → All IsScalar cs → scalars cs ≡ true
-are_scalars cs h = ?
+are_scalars [] h = refl
+are_scalars (c ∷ cs) h = and_from _ (scalars cs) (All-head IsScalar c cs h) (are_scalars cs (All-tail IsScalar c cs h))
 
 pub utf8_of : (word : List ℕ) → IsIdentifier word → IsUtf8 word
 utf8_of word i = (i.characters, (are_scalars i.characters i.scalars, same_encoding i.characters ∙ sym i.spelled))

@@ -1,5 +1,5 @@
 -- What the texts of types say first.
-use Rattle.std.proofs.Common.{◌≡◌, refl, ap, ap₂, sym, subst, ◌∙◌, true≢false, ℕ, ◌<◌, ◌^◌, Bool, true, false, not, ◌==◌, cond, arith, List, [], ◌∷◌, ◌++◌, append_assoc, append-nil, codes, drop, Some, None, inl, inr}
+use Rattle.std.proofs.Common.{◌≡◌, refl, ap, ap₂, sym, ◌∙◌, true≢false, ℕ, ◌<◌, ◌^◌, Bool, true, false, not, ◌==◌, cond, arith, List, [], ◌∷◌, ◌++◌, append_assoc, append-nil, codes, drop, Some, inr}
 use Rattle.std.specs.Fmt.{decimal}
 use Rattle.std.specs.List.{list_all}
 use Rattle.std.proofs.lemmas.Bool.{false_from_ne_true}
@@ -18,10 +18,9 @@ use Rattle.gno_terms.proofs.Joined.{is_end, ends}
 use Rattle.gno_terms.proofs.Members.{decimal_digits, decimal_begins, defined_word}
 use Rattle.gno_terms.proofs.Openings.{other_byte}
 use Rattle.gno_terms.proofs.PathBytes.{path_begins}
-use Rattle.gno_type_reading.specs.declared.frame.FrameOf.{FrameOf}
 use Rattle.gno_type_reading.specs.declared.frame.FrameOf.TheVariants as frame
 use Rattle.gno_type_reading.specs.declared.frame.ActionOf.TheVariants as act
-use Rattle.gno_type_reading.specs.Turns.{Turn, turn, opened, first_word, params, fields, methods, word_at, behind_word, begins_with, in_word, in_name, sized, defined, defined_by, numbered, number_after, member, cut, worded}
+use Rattle.gno_type_reading.specs.Turns.{Turn, turn, opened, first_word, params, fields, methods, word_at, behind_word, begins_with, in_word, in_name, sized, defined, defined_by, numbered, number_after, worded}
 use Rattle.gno_type_reading.proofs.FrontWords.{front_word, behind_front}
 use Rattle.gno_type_reading.proofs.Cuts.{member_is, number_is, cut_local, uncut_member}
 

@@ -1,5 +1,5 @@
 -- The texts of parameters and of results lead to the function.
-use Rattle.std.proofs.Common.{◌≡◌, refl, ap, sym, subst, ◌∙◌, true≢false, ℕ, Bool, true, false, cond, arith, List, [], ◌∷◌, ◌++◌, append_assoc, append-nil, codes, map, drop, ◌==◌}
+use Rattle.std.proofs.Common.{◌≡◌, refl, ap, sym, subst, ◌∙◌, true≢false, ℕ, Bool, true, false, cond, arith, List, [], ◌∷◌, ◌++◌, append_assoc, codes, map, drop, ◌==◌}
 use Rattle.std.proofs.lemmas.Bool.Decides.{nat_tests}
 use Rattle.gno_terms.specs.declared.term.GoType.{GoType}
 use Rattle.gno_terms.specs.declared.term.TermOf.{TermOf}
@@ -8,7 +8,6 @@ use Rattle.gno_terms.specs.Lawful.{Each, is_slice}
 use Rattle.gno_terms.specs.Tables.{Table}
 use Rattle.gno_terms.specs.Terms.{term_of}
 use Rattle.gno_terms.specs.Texts.{joined, variadic_texts, results_text, term_text, type_text}
-use Rattle.gno_terms.proofs.Words.{begins}
 use Rattle.gno_terms.proofs.Joined.{ends, is_end}
 use Rattle.gno_terms.proofs.Openings.{opens, is_opening, text_of}
 use Rattle.gno_terms.proofs.Plain.{Plain, EndsInSlice}
@@ -16,9 +15,8 @@ use Rattle.gno_terms.proofs.Shapes.{texts}
 use Rattle.gno_type_reading.specs.declared.frame.FrameOf.{FrameOf}
 use Rattle.gno_type_reading.specs.declared.frame.FrameOf.TheVariants as frame
 use Rattle.gno_type_reading.specs.declared.frame.ActionOf.TheVariants as act
-use Rattle.gno_type_reading.specs.Turns.{Turn, turn, closed, opened, params, results, further_param, further_result, begins_with}
-use Rattle.gno_type_reading.proofs.Leads.{LeadsTo, ActsTo, wants, has, by_closing, alike}
-use Rattle.gno_type_reading.proofs.Separated.{behind, joined_behind}
+use Rattle.gno_type_reading.specs.Turns.{Turn, turn, closed, params, results, begins_with}
+use Rattle.gno_type_reading.proofs.Leads.{LeadsTo, ActsTo, wants, by_closing, alike}
 use Rattle.gno_type_reading.proofs.Comes.{Comes}
 use Rattle.gno_type_reading.proofs.Opened.{begins_other, opened_slice, opened_dots}
 

@@ -1,6 +1,6 @@
 -- What is known of numbers in a table, and in a later one.
-use Rattle.std.proofs.Common.{◌≡◌, refl, ap, sym, subst, ◌∙◌, ℕ, false, List, [], ◌∷◌, map, Option, Some, None}
-use Rattle.std.specs.Prelude.{slice_get, IfSome}
+use Rattle.std.proofs.Common.{◌≡◌, refl, ap, sym, subst, ◌∙◌, ℕ, true, false, true≢false, List, [], ◌∷◌, Some}
+use Rattle.std.specs.Prelude.{slice_get}
 use Rattle.gno_terms.specs.declared.term.GoType.{GoType}
 use Rattle.gno_terms.specs.declared.term.TypeRef.{TypeRef}
 use Rattle.gno_terms.specs.declared.term.TermOf.{TermOf}
@@ -12,12 +12,14 @@ use Rattle.gno_terms.specs.Tables.{Table, Is, Grows, Defines, type_at, type_or}
 use Rattle.gno_terms.specs.Terms.{term_of, type_of, term_with, parts}
 use Rattle.gno_terms.proofs.Layers.{term_of-type_of}
 use Rattle.gno_terms.proofs.NormalTerms.{parts_of_normal}
+use Rattle.gno_terms.proofs.Parts.{Each-map, Each-weaken, parts_with}
 use Rattle.gno_terms.proofs.NormalTypes.{normal_of_normal_parts}
+use Rattle.gno_type_table.specs.RowTypes.{is_defined}
 use Rattle.gno_type_reading.specs.Known.{Known, MayStand}
 use Rattle.gno_type_reading.specs.TypeTexts.{IsDefinedBy, OverDefined, AllOverDefined, over, none, more}
 
 module _ (table later : Table) (same : later.definitions ≡ table.definitions) where
-  defined_later : (x : TermOf GoType) → IsDefinedBy table x → IsDefinedBy later x
+  pub defined_later : (x : TermOf GoType) → IsDefinedBy table x → IsDefinedBy later x
   defined_later (t.Defined path name local) h = (h.0, subst (λ (ds : List (DefinitionOf GoType)). (k : ℕ) × (slice_get ds k ≡ Some h.0)) (sym same) h.1, h.2)
   defined_later _ h = tt
 
@@ -70,3 +72,44 @@ module _ (table : Table) (x : TermOf GoType) (normals : Each (λ s. normal s ≡
   made_over d h =
       over (subst (IsDefinedBy table) (sym of_normal) (defined_normal table x d))
       (subst (λ y. AllOverDefined table (parts y)) (sym of_normal) (all_over table (parts (normal_term x)) (parts_of_normal (OverDefined table) x h)))
+
+-- ---- a term that the table took
+
+abbrev Declared : Table → GoType → Type 0
+Declared table s = (d : DefinitionOf GoType) × Defines table d × (d.of ≡ s)
+
+pub other_term : (table : Table) (f : TypeRef → GoType) (x : TermOf TypeRef) → is_defined x ≡ false → IsDefinedBy table (term_with f x)
+other_term table f (t.Defined path name local) e = absurd (true≢false e)
+other_term table f _ e = tt
+
+normal_defined : (path name : List ℕ) (local : ℕ) → normal (type_of (t.Defined path name local)) ≡ type_of (t.Defined path name local)
+normal_defined path name local = normal_of_normal_parts (t.Defined path name local) tt
+
+pub declared_term : (table : Table) (f : TypeRef → GoType) (x : TermOf TypeRef) → is_defined x ≡ true → Declared table (normal (type_of (term_with f x))) → IsDefinedBy table (term_with f x)
+declared_term table f (t.Defined path name local) e d = (d.0, d.1, d.2 ∙ normal_defined path name local)
+declared_term table f _ e d = tt
+
+pub term_declared : (table : Table) (f : TypeRef → GoType) (x : TermOf TypeRef) → is_defined x ≡ true → IsDefinedBy table (term_with f x) → Declared table (normal (type_of (term_with f x)))
+term_declared table f (t.Defined path name local) e h = (h.0, h.1, h.2 ∙ sym (normal_defined path name local))
+term_declared table f _ e h = absurd (true≢false (sym e))
+
+module _ (table later : Table) (same : later.definitions ≡ table.definitions) (x : TermOf TypeRef) (known : Each (Known table) (parts x)) (normals : (r : TypeRef) (s : GoType) → Is table r s → normal s ≡ s) where
+  abbrev term : TermOf GoType
+  term = term_with (type_at table.types) x
+
+  each_part : (P : GoType → Type 0) → ((r : TypeRef) → Known table r → P (type_at table.types r)) → Each P (parts term)
+  each_part P h = subst (Each P) (sym (parts_with (type_at table.types) x)) (Each-map P (type_at table.types) (parts x) (Each-weaken (Known table) (λ r. P (type_at table.types r)) h (parts x) known))
+
+  untyped_with : (y : TermOf TypeRef) → is_untyped (term_with (type_at table.types) y) ≡ is_untyped y
+  untyped_with (t.Basic kind) = refl
+  untyped_with _ = refl
+
+  pub known_made : (r : TypeRef) → is_untyped x ≡ false → IsDefinedBy later term → Is later r (normal (type_of term)) → Known later r
+  known_made r untyped defined is =
+      let all_normal = each_part (λ s. normal s ≡ s) (λ r k. subst (λ s. normal s ≡ s) (sym (known_at table r k)) (normals r k.type k.is)) in
+      record {
+        type = normal (type_of term);
+        is = is;
+        typed = made_typed later term all_normal (untyped_with x ∙ untyped);
+        over = made_over later term all_normal defined (each_part (OverDefined later) (λ r k. subst (OverDefined later) (sym (known_at table r k)) (over_later table later same k.over)));
+      }

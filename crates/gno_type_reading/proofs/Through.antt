@@ -9,7 +9,7 @@ use Rattle.gno_terms.specs.declared.term.TermOf.TheVariants as t
 use Rattle.gno_terms.specs.declared.term.FieldOf.{FieldOf}
 use Rattle.gno_terms.specs.declared.term.MethodOf.{MethodOf}
 use Rattle.gno_terms.specs.Lawful.{Each}
-use Rattle.gno_terms.specs.Terms.{term_with, parts, field_of, field_with, method_of, method_with}
+use Rattle.gno_terms.specs.Terms.{field_of, field_with, method_of, method_with}
 use Rattle.gno_terms.proofs.Parts.{Each-append, Each-left, Each-right, Each-map, Each-always, parts_with, term_with_alike}
 use Rattle.gno_type_reading.specs.declared.frame.Member.{Member}
 use Rattle.gno_type_reading.specs.declared.frame.FrameOf.{FrameOf}

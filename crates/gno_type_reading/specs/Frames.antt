@@ -1,12 +1,11 @@
 -- What stands in the frames of types that are open.
-use Rattle.std.specs.Prelude.{List, [], ◌∷◌, ◌++◌, map, Option, Some, None, reverse, ◌≡◌}
+use Rattle.std.specs.Prelude.{ℕ, ◌≡◌, List, [], ◌∷◌, ◌++◌, map, Bool, true, false, Option, Some, None}
 use Rattle.gno_terms.specs.Terms.{parts, term_with, field_of, field_with, method_of, method_with}
 use Rattle.gno_type_reading.specs.declared.frame.FrameOf.{FrameOf}
 use Rattle.gno_type_reading.specs.declared.frame.FrameOf.TheVariants as frame
 use Rattle.gno_type_reading.specs.declared.frame.ActionOf.{ActionOf}
 use Rattle.gno_type_reading.specs.declared.frame.ActionOf.TheVariants as act
-use Rattle.gno_type_reading.specs.Turns.{Turn, turn, opened, closed}
-use Rattle.std.specs.Prelude.{ℕ}
+use Rattle.gno_type_reading.specs.Turns.{turn, opened, closed}
 
 -- each part through a function
 abbrev pub frame_with : {A B : Type 0} → (A → B) → FrameOf A → FrameOf B
@@ -40,6 +39,12 @@ abbrev pub action_parts : {A : Type 0} → ActionOf A → List A
 action_parts (act.Opened x) = frame_parts x
 action_parts (act.Made x) = parts x
 action_parts act.Refused = []
+
+-- something is open, or no part was read
+abbrev pub is_open : {A B : Type 0} → List A → Option B → Bool
+is_open frames None = true
+is_open [] (Some of) = false
+is_open (f ∷ frames) (Some of) = true
 
 -- what is said next, and which frames stay open
 abbrev pub Says : {A : Type 0} → List (FrameOf A) → Option A → List ℕ → ActionOf A → List ℕ → List (FrameOf A) → Type 0

@@ -5,7 +5,6 @@ use Rattle.std.specs.List.{list_all, prefix_len}
 use Rattle.std.specs.Str.{bytes_eq}
 use Rattle.gno_base.specs.Callers.{is_digit}
 use Rattle.gno_base.specs.declared.kind.Kind.TheVariants as k
-use Rattle.gno_terms.specs.declared.term.TermOf.{TermOf}
 use Rattle.gno_terms.specs.declared.term.TermOf.TheVariants as t
 use Rattle.gno_terms.specs.declared.term.FieldOf.{FieldOf}
 use Rattle.gno_terms.specs.declared.term.MethodOf.{MethodOf}

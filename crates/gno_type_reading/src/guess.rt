@@ -7,7 +7,7 @@ ghost use Rattle.gno_terms.specs.Normal.{normal};
 ghost use Rattle.gno_terms.specs.Tables.{Grows, Is, deep, type_at};
 ghost use Rattle.gno_terms.specs.Terms.{parts, term_with};
 ghost use Rattle.gno_type_table.specs.RowTypes.{is_defined};
-ghost use Rattle.gno_type_reading.specs.Frames.{Says};
+ghost use Rattle.gno_type_reading.specs.Frames.{Says, is_open};
 ghost use Rattle.gno_type_reading.specs.Known.{Known, MayStand};
 ghost use Rattle.gno_type_reading.specs.TypeTexts.{IsTypeText};
 
@@ -34,7 +34,7 @@ pub(crate) fn guess(
     let mut cursor = Cursor::new(text);
     let mut frames = Vec::new(alloc);
     let mut last = None;
-    'parts: while last.is_none() || !frames.is_empty() {
+    'parts: while is_open(&frames, last) {
         match said(alloc, &mut frames, &mut cursor, last)? {
             ActionOf::Opened(frame) => {
                 frames.push(frame)?;
@@ -50,6 +50,16 @@ pub(crate) fn guess(
         }
     }
     Ok(last)
+}
+
+// Whether something is open, or no part was read.
+fn is_open(frames: &Vec<Frame>, last: Option<TypeRef>) -> bool
+    ensures { result ≡ is_open frames.now.items last }
+{
+    match last {
+        Some(_) => !frames.is_empty(),
+        None => true,
+    }
 }
 
 // What is said behind the last part, or at the next one.
@@ -89,7 +99,10 @@ fn interned(
     types.types_are_lawful();
     let defined = is_defined(&term);
     let t = types.intern(term)?;
-    if !defined || types.is_defined(t) {
+    if !defined {
+        return Ok(Some(t));
+    }
+    if types.is_defined(t) {
         Ok(Some(t))
     } else {
         Ok(None)

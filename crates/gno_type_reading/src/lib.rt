@@ -9,4 +9,7 @@ mod lawful;
 mod lists;
 mod names;
 mod open;
+mod read;
 mod words;
+
+pub use read::read_text;

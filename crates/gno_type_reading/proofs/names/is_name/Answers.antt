@@ -1,4 +1,4 @@
-use Rattle.std.proofs.Common.{◌≡◌, refl, ap, sym, ◌∙◌, true≢false, Bool, true, false, not}
+use Rattle.std.proofs.Common.{◌≡◌, refl, ap, sym, ◌∙◌, Bool, true, false, not}
 use Rattle.gno_type_reading.proofs.NameTests.{name_is, name_no_keyword}
 use Rattle.gno_type_reading.proofs.names.is_name.Goals as goal
 
