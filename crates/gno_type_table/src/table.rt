@@ -1,5 +1,5 @@
 // The table of types.
-ghost use Rattle.std.specs.Prelude.{◌≡◌, ◌≢◌, ◌↔◌, ◌⊎◌, ◌-◌, ◌^◌, [], true, ℕ, IfOk, IsTrue, OnOk, length, map, min};
+ghost use Rattle.std.specs.Prelude.{◌≡◌, ◌≢◌, ◌↔◌, ◌⊎◌, ◌-◌, ◌^◌, [], true, ℕ, IfOk, IsTrue, OnErr, OnOk, length, map, min};
 ghost use Rattle.gno_terms.specs.declared.term.DefinitionOf.{DefinitionOf};
 ghost use Rattle.gno_terms.specs.declared.term.GoType.{GoType};
 ghost use Rattle.gno_terms.specs.declared.term.TypeRef.{TypeRef};
@@ -84,7 +84,7 @@ impl TypeTable {
         self.rows.identical(a, b)
     }
 
-    /// Notes the underlying type and the methods of a defined type. Go specification, "Type definitions".
+    /// Notes the underlying type and the methods of a defined type. An `Err` changes nothing. Go specification, "Type definitions".
     pub fn define(
         &mut self,
         defined: TypeRef,
@@ -99,6 +99,7 @@ impl TypeTable {
         ensures types { self.new.types ≡ self.old.types }
         ensures definitions { OnOk result ((d : DefinitionOf GoType) → Defines self.new d ↔ (Defines self.old d
             ⊎ (d ≡ definition_with (type_at self.old.types) (record { of = defined; underlying = underlying; methods = methods })))) }
+        ensures err { OnErr result (self.new ≡ self.old) }
     {
         self.rows.define(DefinitionOf {
             of: defined,

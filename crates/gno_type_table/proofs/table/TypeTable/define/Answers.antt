@@ -1,5 +1,5 @@
 use Rattle.std.proofs.Common.{◌≡◌, sym, subst}
-use Rattle.std.specs.Prelude.{◌⊎◌, ◌↔◌, OnOk}
+use Rattle.std.specs.Prelude.{◌⊎◌, ◌↔◌, OnErr, OnOk}
 use Rattle.gno_terms.specs.declared.term.GoType.{GoType}
 use Rattle.gno_terms.specs.declared.term.DefinitionOf.{DefinitionOf}
 use Rattle.gno_terms.specs.Tables.{Table, Defines, type_at}
@@ -13,3 +13,6 @@ pub returns-clause-definitions : goal.returns-clause-definitions
 returns-clause-definitions c =
     subst (λ (v : Table). OnOk c.define.result ((d : DefinitionOf GoType) → Defines c.define.new.self d ↔ (Defines v d ⊎ (d ≡ definition_with (type_at v.types) (record { of = c.args.defined; underlying = c.args.underlying; methods = c.args.methods })))))
     c.self.view_is c.define.ensures.definitions
+
+pub returns-clause-err : goal.returns-clause-err
+returns-clause-err c = subst (λ (v : Table). OnErr c.define.result (c.define.new.self ≡ v)) c.self.view_is c.define.ensures.err
