@@ -1,5 +1,5 @@
 -- A row whose underlying type is told.
-use Rattle.std.proofs.Common.{◌≡◌, refl, sym, ap, ◌∙◌, subst, ℕ, zero, suc, ◌+◌, ◌<◌, ◌≤◌, List, [], ◌∷◌, Option, Some, None, length, take, true, false, inl, inr, rules, arith}
+use Rattle.std.proofs.Common.{◌≡◌, refl, sym, ap, ◌∙◌, subst, ℕ, zero, ◌<◌, List, [], Option, Some, None, length, take, true, false, inl, inr, rules, arith}
 use Rattle.std.specs.Prelude.{◌⊎◌, slice_get, slice_set}
 use Rattle.std.specs.List.{AllByRecursion}
 use Rattle.std.proofs.lemmas.Option.{slice_get_within}
@@ -9,7 +9,7 @@ use Rattle.gno_layouts.specs.declared.row.Row.TheVariants.{Defined}
 use Rattle.gno_layouts.specs.declared.settling.State.{State}
 use Rattle.gno_layouts.specs.declared.settling.State.TheVariants.{Waiting, Settled}
 use Rattle.gno_layouts.specs.Layouts.{parts, is_known}
-use Rattle.gno_layouts.specs.Settling.{settled_at, In, Totals, Fits, waiting, IsDue, IsBoard, AreRows, EachHasRows, AreHolders, AreLayouts, Holds}
+use Rattle.gno_layouts.specs.Settling.{Totals, Fits, IsDue, IsBoard, AreRows, EachHasRows, AreHolders, AreLayouts, Holds}
 use Rattle.gno_layouts.proofs.Agreed.{each_wider}
 use Rattle.gno_layouts.proofs.Boards.{waiting_within}
 use Rattle.gno_layouts.proofs.SetAt.{set_size, set_here, set_elsewhere, Same, here, elsewhere, where_is}

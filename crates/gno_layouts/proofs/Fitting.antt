@@ -9,7 +9,7 @@ use Rattle.gno_layouts.specs.declared.row.Row.{Row}
 use Rattle.gno_layouts.specs.declared.settling.State.{State}
 use Rattle.gno_layouts.specs.declared.settling.State.TheVariants.{Waiting, Settled}
 use Rattle.gno_layouts.specs.Layouts.{parts, is_known, together, whole, saturated}
-use Rattle.gno_layouts.specs.Settling.{layout_of, settled_at, Totals, Fits}
+use Rattle.gno_layouts.specs.Settling.{settled_at, Totals, Fits}
 use Rattle.gno_layouts.proofs.Bounds.{saturated_left, saturated_whole}
 use Rattle.gno_layouts.proofs.Totals.{totals_last, take_one}
 

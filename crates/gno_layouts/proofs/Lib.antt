@@ -12,4 +12,5 @@ pub mod Taken
 pub mod Defining
 pub mod Restarted
 pub mod Noted
+pub mod Known
 pub mod Written

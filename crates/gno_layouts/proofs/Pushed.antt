@@ -1,12 +1,12 @@
 -- One row more.
-use Rattle.std.proofs.Common.{◌≡◌, refl, sym, ap, ◌∙◌, subst, ℕ, ◌+◌, ◌<◌, List, [], ◌∷◌, ◌++◌, Option, Some, None, length, length-append, rules, arith}
+use Rattle.std.proofs.Common.{◌≡◌, sym, ◌∙◌, subst, ℕ, ◌+◌, ◌<◌, List, [], ◌∷◌, ◌++◌, Option, Some, None, length, length-append, arith}
 use Rattle.std.specs.Prelude.{slice_get}
 use Rattle.std.specs.List.{AllByRecursion}
 use Rattle.std.proofs.lemmas.Option.{slice_get_within}
 use Rattle.gno_layouts.specs.declared.row.Row.{Row}
 use Rattle.gno_layouts.specs.declared.settling.State.{State}
 use Rattle.gno_layouts.specs.Layouts.{parts}
-use Rattle.gno_layouts.specs.Settling.{Fits, Waits, AreRows, EachHasRows, AreHolders, AreSettled, AreLayouts, Holds}
+use Rattle.gno_layouts.specs.Settling.{Fits, Waits, AreRows, AreHolders, AreSettled, AreLayouts, Holds}
 use Rattle.gno_layouts.proofs.Ends.{Where, inside, last, get_where, get_left, some_at}
 use Rattle.gno_layouts.proofs.Agreed.{Agree, each_wider, fits_agree, waits_agree}
 

@@ -1,15 +1,14 @@
 -- Rows that begin anew.
-use Rattle.std.proofs.Common.{◌≡◌, refl, sym, ap, ◌∙◌, subst, ℕ, zero, suc, ◌+◌, ◌<◌, ◌≤◌, List, [], ◌∷◌, Bool, Option, Some, None, length, take, true, false, inl, inr, rules, arith}
+use Rattle.std.proofs.Common.{◌≡◌, refl, sym, ap, ◌∙◌, subst, ℕ, zero, suc, ◌+◌, ◌<◌, ◌≤◌, List, [], Bool, Option, Some, None, length, true, false, inl, inr, rules, arith}
 use Rattle.std.specs.Prelude.{◌⊎◌, slice_get, slice_set}
 use Rattle.std.specs.List.{AllByRecursion}
 use Rattle.std.proofs.lemmas.Option.{slice_get_within}
-use Rattle.gno_layouts.specs.declared.row.Layout.{Layout}
 use Rattle.gno_layouts.specs.declared.row.Row.{Row}
 use Rattle.gno_layouts.specs.declared.row.Row.TheVariants as r
 use Rattle.gno_layouts.specs.declared.settling.State.{State}
-use Rattle.gno_layouts.specs.declared.settling.State.TheVariants.{Waiting, Settled}
-use Rattle.gno_layouts.specs.Layouts.{parts, is_known, nothing, kept}
-use Rattle.gno_layouts.specs.Settling.{In, Fits, waiting, IsDue, IsBoard, AreRows, EachHasRows, AreHolders, Holds}
+use Rattle.gno_layouts.specs.declared.settling.State.TheVariants.{Waiting}
+use Rattle.gno_layouts.specs.Layouts.{parts, nothing, kept}
+use Rattle.gno_layouts.specs.Settling.{Fits, IsDue, IsBoard, AreRows, EachHasRows, AreHolders, Holds}
 use Rattle.gno_layouts.proofs.Ends.{some_at}
 use Rattle.gno_layouts.proofs.Boards.{waiting_within}
 use Rattle.gno_layouts.proofs.SetAt.{before, set_here, set_elsewhere, Same, here, elsewhere, where_is}

@@ -1,5 +1,5 @@
 -- The first rows.
-use Rattle.std.proofs.Common.{◌≡◌, refl, sym, ap, ◌∙◌, subst, ℕ, zero, suc, ◌+◌, ◌-◌, ◌<◌, ◌≤◌, List, [], ◌∷◌, ◌++◌, Option, Some, None, length, length-append, take, min, rules, arith}
+use Rattle.std.proofs.Common.{◌≡◌, refl, sym, ap, ◌∙◌, ℕ, zero, suc, ◌-◌, ◌<◌, ◌≤◌, List, [], ◌∷◌, ◌++◌, Option, Some, length, length-append, take, arith}
 use Rattle.std.specs.Prelude.{slice_get}
 use Rattle.std.specs.List.{AllByRecursion}
 use Rattle.std.proofs.lemmas.List.{length-take-le}
@@ -7,9 +7,8 @@ use Rattle.std.proofs.lemmas.Option.{slice_get_within}
 use Rattle.gno_layouts.specs.declared.row.Row.{Row}
 use Rattle.gno_layouts.specs.declared.settling.State.{State}
 use Rattle.gno_layouts.specs.Layouts.{parts}
-use Rattle.gno_layouts.specs.Settling.{AreRows, EachHasRows, AreLayouts, Holds}
-use Rattle.gno_layouts.proofs.Agreed.{Agree, each_wider, fits_agree, waits_agree}
-use Rattle.gno_layouts.proofs.Fitting.{each_at}
+use Rattle.gno_layouts.specs.Settling.{EachHasRows, AreLayouts, Holds}
+use Rattle.gno_layouts.proofs.Agreed.{Agree, fits_agree, waits_agree}
 
 module _ {A : Type 0} where
   pub get_taken : (size : ℕ) (xs : List A) (n : ℕ) → n < size → slice_get (take size xs) n ≡ slice_get xs n

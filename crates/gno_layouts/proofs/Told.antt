@@ -1,12 +1,11 @@
 -- Those that hold what is on the stack.
-use Rattle.std.proofs.Common.{◌≡◌, refl, sym, ap, ◌∙◌, subst, ℕ, zero, suc, ◌+◌, ◌-◌, ◌<◌, ◌≤◌, List, [], ◌∷◌, Option, Some, None, length, drop, get_or, drop-cons, true, inl, inr, rules, arith}
+use Rattle.std.proofs.Common.{◌≡◌, sym, ap, ◌∙◌, subst, ℕ, zero, suc, ◌+◌, ◌-◌, ◌<◌, ◌≤◌, List, [], ◌∷◌, Option, Some, None, length, drop, get_or, drop-cons, inl, inr, rules, arith}
 use Rattle.std.specs.Prelude.{◌⊎◌, slice_get}
 use Rattle.std.proofs.lemmas.Option.{slice_get_within}
-use Rattle.gno_layouts.specs.declared.row.Layout.{Layout}
 use Rattle.gno_layouts.specs.declared.row.Row.{Row}
 use Rattle.gno_layouts.specs.declared.settling.State.{State}
 use Rattle.gno_layouts.specs.declared.settling.State.TheVariants.{Waiting, Settled}
-use Rattle.gno_layouts.specs.Layouts.{parts, is_known}
+use Rattle.gno_layouts.specs.Layouts.{parts}
 use Rattle.gno_layouts.specs.Settling.{settled_at, In, Waits, IsDue, IsHeldUp, IsBoard, AreHolders, AreSettled, Holds, Stacked}
 use Rattle.gno_layouts.proofs.Fitting.{each_at}
 

@@ -1,12 +1,10 @@
 -- The layout of settled parts together.
-use Rattle.std.proofs.Common.{◌≡◌, refl, sym, ap, ◌∙◌, subst, ℕ, zero, suc, ◌+◌, ◌<◌, List, [], ◌∷◌, ◌++◌, Some, None, length, take, rules, arith}
+use Rattle.std.proofs.Common.{◌≡◌, refl, sym, ap, ◌∙◌, subst, ℕ, zero, suc, ◌+◌, List, [], ◌∷◌, ◌++◌, Some, take, rules, arith}
 use Rattle.std.specs.Prelude.{slice_get}
 use Rattle.gno_layouts.specs.declared.row.Layout.{Layout}
-use Rattle.gno_layouts.specs.declared.row.Row.{Row}
 use Rattle.gno_layouts.specs.declared.settling.State.{State}
-use Rattle.gno_layouts.specs.declared.settling.State.TheVariants.{Waiting, Settled}
-use Rattle.gno_layouts.specs.Layouts.{nothing, together, saturated}
-use Rattle.gno_layouts.specs.Settling.{settled_at, Totals, layout_of}
+use Rattle.gno_layouts.specs.Layouts.{nothing, together}
+use Rattle.gno_layouts.specs.Settling.{settled_at, Totals}
 use Rattle.gno_layouts.proofs.Bounds.{together_comm, together_assoc}
 
 -- what is settled stays so

@@ -1,8 +1,8 @@
 -- What is kept beside rows, where a part of it is written.
-use Rattle.std.proofs.Common.{◌≡◌, refl, sym, ap, ◌∙◌, subst, ℕ, List, [], ◌∷◌, ◌++◌, Option, length, take, arith}
+use Rattle.std.proofs.Common.{◌≡◌, refl, sym, ap, ◌∙◌, subst, ℕ, List, [], ◌∷◌, ◌++◌, Option, length, take}
 use Rattle.gno_layouts.specs.declared.row.Row.{Row}
 use Rattle.gno_layouts.specs.declared.settling.State.{State}
-use Rattle.gno_layouts.specs.Settling.{AreHolders, AreSettled, AreLayouts, EachHasRows, Holds}
+use Rattle.gno_layouts.specs.Settling.{AreHolders, AreLayouts, Holds}
 use Rattle.gno_layouts.proofs.Pushed.{more_holders}
 
 module _ {A : Type 0} where

@@ -1,5 +1,5 @@
 -- What is kept beside rows while they settle.
-use Rattle.std.specs.Prelude.{ℕ, ◌≡◌, ◌≢◌, ◌+◌, ◌<◌, ◌≤◌, ◌⊎◌, ⊤, List, [], ◌∷◌, Bool, true, false, Option, Some, None, length, slice_get, slice_set, take}
+use Rattle.std.specs.Prelude.{ℕ, ◌≡◌, ◌+◌, ◌<◌, ◌≤◌, ◌⊎◌, ⊤, List, [], ◌∷◌, true, Option, Some, None, length, slice_get, slice_set, take}
 use Rattle.std.specs.List.{AllByRecursion}
 use Rattle.gno_layouts.specs.declared.row.Layout.{Layout}
 use Rattle.gno_layouts.specs.declared.row.Row.{Row}
@@ -118,3 +118,10 @@ pub record AreLayouts (rows : List Row) (states : List State) (holders : List (L
   pub settled : AreSettled rows states
   pub held : AreHolders rows holders
   pub linked : length links ≡ length rows
+
+-- what holds something is still there
+abbrev pub Keeps : List Row → List ℕ → List ℕ → Type 0
+Keeps rows old new = (n : ℕ) (row : Row) → slice_get rows n ≡ Some row → is_known row ≡ true → In n old → In n new
+
+abbrev pub EachKeeps : List Row → List (List ℕ) → List (List ℕ) → Type 0
+EachKeeps rows holders less = (k : ℕ) (ms : List ℕ) → slice_get holders k ≡ Some ms → (ns : List ℕ) × (slice_get less k ≡ Some ns) × Keeps rows ms ns

@@ -6,7 +6,7 @@ ghost use Rattle.gno_layouts.specs.declared.row.Layout.{Layout};
 ghost use Rattle.gno_layouts.specs.declared.row.Row.{Row};
 ghost use Rattle.gno_layouts.specs.declared.row.Row.TheVariants.{Defined};
 
-use crate::holders::{hold, hold_all};
+use crate::holders::{forget_holders, hold, hold_all};
 use crate::restart::{forget, settle_anew};
 use crate::row::{Layout, Row};
 use crate::settling::{State, begun, settle_from, settled};
@@ -120,6 +120,7 @@ impl Layouts {
         ensures each { (n : ℕ) (row : Row) → slice_get self.old n ≡ Some row → slice_get self.new n ≡ Some (kept row (stands (slice_get definitions.now n))) }
     {
         forget(&mut self.rows, definitions);
+        forget_holders(&self.rows, &mut self.holders);
         settle_anew(&self.rows, &self.holders, &mut self.states, &mut self.links);
     }
 

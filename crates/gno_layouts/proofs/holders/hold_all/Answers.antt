@@ -1,4 +1,4 @@
-use Rattle.std.proofs.Common.{◌≡◌, sym, subst, ℕ, List, [], ◌∷◌, get_or, take}
+use Rattle.std.proofs.Common.{sym, subst, [], ◌∷◌, get_or, take}
 use Rattle.std.specs.List.{AllByRecursion}
 use Rattle.std.proofs.lemmas.List.{take_more}
 use Rattle.gno_layouts.specs.Settling.{Holds}

@@ -1,5 +1,4 @@
-use Rattle.std.proofs.Common.{◌≡◌, ℕ, List, [], ◌<◌, ◌≤◌, length, arith, Some}
-use Rattle.std.specs.Prelude.{◌⊎◌, slice_get}
+use Rattle.std.proofs.Common.{[], ◌≤◌, length}
 use Rattle.gno_layouts.proofs.Boards.{weaker, after_visit}
 use Rattle.gno_layouts.proofs.Restarted.{fresh_board, next_left, none_past}
 use Rattle.gno_layouts.proofs.restart.all_begun.Goals as goal

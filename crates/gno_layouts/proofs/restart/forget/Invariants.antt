@@ -1,4 +1,4 @@
-use Rattle.std.specs.Prelude.{ℕ, slice_get}
+use Rattle.std.specs.Prelude.{slice_get}
 use Rattle.gno_layouts.specs.Layouts.{stands}
 use Rattle.gno_layouts.proofs.Restarted.{Forgot}
 use Rattle.gno_layouts.proofs.restart.forget.Given as goal

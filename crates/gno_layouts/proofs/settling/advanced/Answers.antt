@@ -1,4 +1,4 @@
-use Rattle.std.proofs.Common.{◌≡◌, sym, ap, ◌∙◌, subst, ◌+◌, ◌<◌, ◌≤◌, length, get_or, arith, ℕ, List, Some}
+use Rattle.std.proofs.Common.{◌≡◌, ap, subst, ◌<◌, ◌≤◌, length, get_or, ℕ, List, Some}
 use Rattle.std.specs.Prelude.{slice_get}
 use Rattle.std.proofs.lemmas.Option.{slice_get-get_or}
 use Rattle.gno_layouts.specs.Layouts.{parts}

@@ -1,5 +1,3 @@
-use Rattle.std.proofs.Common.{◌≡◌, ℕ, List, ◌≤◌, length, drop, get_or}
-use Rattle.gno_layouts.specs.Settling.{In, IsBoard}
 use Rattle.gno_layouts.proofs.Boards.{weaker, after_visit}
 use Rattle.gno_layouts.proofs.Told.{none_left, one_less}
 use Rattle.gno_layouts.proofs.settling.all_visited.Goals as goal

@@ -1,4 +1,4 @@
-use Rattle.std.specs.Prelude.{ℕ, List, ◌≡◌, length, drop}
+use Rattle.std.specs.Prelude.{ℕ, List, drop}
 use Rattle.gno_layouts.specs.Settling.{In, IsBoard}
 use Rattle.gno_layouts.proofs.settling.all_visited.Given as goal
 

@@ -1,4 +1,4 @@
-use Rattle.std.proofs.Common.{◌≡◌, sym, subst, ℕ, ◌+◌, ◌-◌, ◌<◌, ◌≤◌, length, arith, Option, Some, None}
+use Rattle.std.proofs.Common.{◌≡◌, sym, subst, ℕ, ◌+◌, ◌-◌, ◌≤◌, length, arith, Option, Some}
 use Rattle.gno_layouts.specs.Settling.{IsBoard}
 use Rattle.gno_layouts.proofs.Told.{top_within, some_room, settled_none, settled_spent}
 use Rattle.gno_layouts.proofs.settling.settle.Goals as goal

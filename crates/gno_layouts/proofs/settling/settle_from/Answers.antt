@@ -1,4 +1,4 @@
-use Rattle.std.proofs.Common.{◌≡◌, ℕ, List, [], None, length}
+use Rattle.std.proofs.Common.{◌≡◌, [], None, length}
 use Rattle.gno_layouts.proofs.Boards.{weaker, after_visit}
 use Rattle.gno_layouts.proofs.settling.settle_from.Goals as goal
 

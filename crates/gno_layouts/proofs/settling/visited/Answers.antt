@@ -1,7 +1,7 @@
-use Rattle.std.proofs.Common.{◌≡◌, refl, sym, ap, ◌<◌, length, arith, rules, Some, true, slice_set}
+use Rattle.std.proofs.Common.{◌≡◌, refl, ap, ◌<◌, length, arith, Some, true, slice_set}
 use Rattle.std.specs.Prelude.{slice_get}
 use Rattle.std.proofs.lemmas.Option.{slice_get_within, slice_get_read}
-use Rattle.gno_layouts.specs.declared.settling.State.TheVariants.{Waiting, Settled}
+use Rattle.gno_layouts.specs.declared.settling.State.TheVariants.{Waiting}
 use Rattle.gno_layouts.specs.Layouts.{is_known}
 use Rattle.gno_layouts.specs.Settling.{CanGoOn, waits, settles}
 use Rattle.gno_layouts.proofs.Fitting.{state_read}

@@ -1,4 +1,4 @@
-use Rattle.std.proofs.Common.{◌≡◌, sym, subst, ℕ, ◌<◌, List}
+use Rattle.std.proofs.Common.{sym, subst, ℕ, ◌<◌, List}
 use Rattle.std.specs.List.{AllByRecursion}
 use Rattle.gno_layouts.proofs.tests.add_pair.Goals as goal
 

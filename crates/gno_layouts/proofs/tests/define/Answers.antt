@@ -1,4 +1,4 @@
-use Rattle.std.proofs.Common.{◌≡◌, sym, ap, ◌∙◌, ◌<◌, List, Some, None, length, arith}
+use Rattle.std.proofs.Common.{ap, ◌∙◌, List, Some, None, length}
 use Rattle.std.specs.Prelude.{slice_get}
 use Rattle.std.proofs.lemmas.Option.{slice_get_within}
 use Rattle.gno_layouts.specs.declared.row.Row.{Row}

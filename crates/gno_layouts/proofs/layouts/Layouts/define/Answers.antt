@@ -1,10 +1,10 @@
-use Rattle.std.proofs.Common.{◌≡◌, refl, sym, ap, ◌∙◌, subst, ℕ, ◌<◌, List, [], ◌∷◌, ◌++◌, None, Option, Some, length, slice_set, arith}
+use Rattle.std.proofs.Common.{◌≡◌, refl, sym, ap, ◌∙◌, subst, ℕ, ◌<◌, List, [], None, Option, Some, length, slice_set, arith}
 use Rattle.std.specs.Prelude.{slice_get}
 use Rattle.std.proofs.lemmas.Option.{slice_get_within}
 use Rattle.gno_layouts.specs.declared.row.Row.{Row}
 use Rattle.gno_layouts.specs.declared.row.Row.TheVariants.{Defined}
 use Rattle.gno_layouts.specs.declared.settling.State.{State}
-use Rattle.gno_layouts.specs.Settling.{AreLayouts, AreSettled, AreHolders, EachHasRows, IsBoard, Holds}
+use Rattle.gno_layouts.specs.Settling.{AreSettled, AreHolders, EachHasRows, IsBoard, Holds}
 use Rattle.gno_layouts.proofs.Defining.{defined_parts, defined_holders, defined_board}
 use Rattle.gno_layouts.proofs.SetAt.{set_size}
 use Rattle.gno_layouts.proofs.Pushed.{layouts_at}

@@ -1,6 +1,6 @@
-use Rattle.std.proofs.Common.{◌≡◌, refl, sym, ap, ◌∙◌, subst, ℕ, ◌-◌, ◌≤◌, List, [], ◌∷◌, ◌++◌, length, take, arith}
+use Rattle.std.proofs.Common.{◌≡◌, sym, ap, ◌∙◌, subst, ℕ, ◌-◌, List, [], ◌∷◌, ◌++◌, length, take, arith}
 use Rattle.gno_layouts.specs.declared.row.Row.{Row}
-use Rattle.gno_layouts.specs.Settling.{AreLayouts, EachHasRows}
+use Rattle.gno_layouts.specs.Settling.{EachHasRows}
 use Rattle.gno_layouts.proofs.Pushed.{layouts_at}
 use Rattle.gno_layouts.proofs.Taken.{taken, taken_init}
 use Rattle.gno_layouts.proofs.layouts.Layouts.pop.Goals as goal

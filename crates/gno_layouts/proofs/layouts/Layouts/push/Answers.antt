@@ -1,9 +1,9 @@
-use Rattle.std.proofs.Common.{◌≡◌, refl, sym, ap, ◌∙◌, subst, ℕ, List, [], ◌∷◌, ◌++◌, None, Option, length, arith}
+use Rattle.std.proofs.Common.{◌≡◌, sym, ap, ◌∙◌, subst, ℕ, List, [], ◌∷◌, ◌++◌, None, Option, length, arith}
 use Rattle.std.specs.List.{AllByRecursion}
 use Rattle.gno_layouts.specs.declared.row.Row.{Row}
 use Rattle.gno_layouts.specs.declared.settling.State.{State}
 use Rattle.gno_layouts.specs.Layouts.{parts}
-use Rattle.gno_layouts.specs.Settling.{AreLayouts, AreRows, Fits, Waits, Holds}
+use Rattle.gno_layouts.specs.Settling.{AreRows, Fits, Waits, Holds}
 use Rattle.gno_layouts.proofs.Pushed.{pushed, layouts_at}
 use Rattle.gno_layouts.proofs.Written.{written, held_more}
 use Rattle.gno_layouts.proofs.layouts.Layouts.push.Goals as goal
