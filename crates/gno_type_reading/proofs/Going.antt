@@ -68,7 +68,7 @@ module _ (old : Table) (s : GoType) (f : TypeRef → GoType) where
       from (suc n) h = (
         n,
         subst (λ (l : Frames). Acts old (Leads old s n) (map (frame_with f) l) (action_with f action) rest) (sym says.1)
-        (subst (λ (u : Turn GoType). Acts old (Leads old s n) (map (frame_with f) frames) u.action u.rest) (sym (ap (turn_with f) says.0 ∙ opened_with f left)) h),
+            (subst (λ (u : Turn GoType). Acts old (Leads old s n) (map (frame_with f) frames) u.action u.rest) (sym (ap (turn_with f) says.0 ∙ opened_with f left)) h),
       )
   said_acts [] (Some of) left action rest after goes says h = absurd goes
   said_acts (x ∷ frames) (Some of) left action rest after goes says h = from h.0 h.1
@@ -78,7 +78,7 @@ module _ (old : Table) (s : GoType) (f : TypeRef → GoType) where
       from (suc n) h = (
         n,
         subst (λ (l : Frames). Acts old (Leads old s n) (map (frame_with f) l) (action_with f action) rest) (sym says.1)
-        (subst (λ (u : Turn GoType). Acts old (Leads old s n) (map (frame_with f) frames) u.action u.rest) (sym (ap (turn_with f) says.0 ∙ closed_with f x of left)) h),
+            (subst (λ (u : Turn GoType). Acts old (Leads old s n) (map (frame_with f) frames) u.action u.rest) (sym (ap (turn_with f) says.0 ∙ closed_with f x of left)) h),
       )
 
 module _ (P : TypeRef → Type 0) where
@@ -130,9 +130,11 @@ module _ (old : Table) (text : List ℕ) (table later : Table) (items : Frames) 
     frames = Each-weaken _ _ (λ f h. Each-weaken _ _ (known_later table later same grown) (frame_parts f) h) (reverse items) acting.frames_known;
     part = known;
     leads = λ s h.
-        let acts = acting.acts s h in
-        (acts.0, subst (λ (l : List (FrameOf GoType)). Leads old s acts.0 (has l (type_at later.types r) rest)) (frames_later table later same grown (reverse items) acting.frames_known)
-        (subst (λ (u : GoType). Leads old s acts.0 (has (map (frame_with (type_at table.types)) (reverse items)) u rest)) (sym (ap type_or is)) acts.1.1));
+        let acts = acting.acts s h in (
+          acts.0,
+          subst (λ (l : List (FrameOf GoType)). Leads old s acts.0 (has l (type_at later.types r) rest)) (frames_later table later same grown (reverse items) acting.frames_known)
+              (subst (λ (u : GoType). Leads old s acts.0 (has (map (frame_with (type_at table.types)) (reverse items)) u rest)) (sym (ap type_or is)) acts.1.1),
+        );
   }
 
 pub refused_wrong : (old : Table) (text : List ℕ) (table : Table) (frames : Frames) (rest : List ℕ) → Acting old text table frames act.Refused rest → (s : GoType) → IsTypeText old text s → ⊥

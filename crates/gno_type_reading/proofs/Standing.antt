@@ -82,7 +82,7 @@ pub other_term : (table : Table) (f : TypeRef → GoType) (x : TermOf TypeRef) �
 other_term table f (t.Defined path name local) e = absurd (true≢false e)
 other_term table f _ e = tt
 
-normal_defined : (path name : List ℕ) (local : ℕ) → normal (type_of (t.Defined path name local)) ≡ type_of (t.Defined path name local)
+pub normal_defined : (path name : List ℕ) (local : ℕ) → normal (type_of (t.Defined path name local)) ≡ type_of (t.Defined path name local)
 normal_defined path name local = normal_of_normal_parts (t.Defined path name local) tt
 
 pub declared_term : (table : Table) (f : TypeRef → GoType) (x : TermOf TypeRef) → is_defined x ≡ true → Declared table (normal (type_of (term_with f x))) → IsDefinedBy table (term_with f x)

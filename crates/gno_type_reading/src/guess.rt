@@ -81,11 +81,7 @@ fn said(
 }
 
 /// The number of a type that may be read.
-fn interned(
-    alloc: Global,
-    types: &mut TypeTable,
-    term: Term,
-) -> Result<Option<TypeRef>, AllocError>
+fn interned(alloc: Global, types: &mut TypeTable, term: Term) -> Result<Option<TypeRef>, AllocError>
     requires { Each (Known types.old) (parts term) }
     ensures known { IfOk result (λ it. IfSome it (Known types.new)) }
     ensures is { IfOk result (λ it. IfSome it (λ t. Is types.new t (normal (deep types.old.types term)))) }

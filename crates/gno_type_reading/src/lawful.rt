@@ -13,11 +13,7 @@ use gno_type_table::TypeTable;
 use std::alloc::{AllocError, Global};
 
 /// Whether the term is lawful and not untyped.
-pub(crate) fn is_lawful(
-    alloc: Global,
-    types: &TypeTable,
-    term: &Term,
-) -> Result<bool, AllocError>
+pub(crate) fn is_lawful(alloc: Global, types: &TypeTable, term: &Term) -> Result<bool, AllocError>
     requires { Each (Known types.now) (parts term.now) }
     ensures { IfOk result (λ yes. IsTrue yes ↔ (IsLawful (term_with (type_at types.now.types) term.now) × (is_untyped term.now ≡ false))) }
 {
@@ -33,33 +29,24 @@ pub(crate) fn is_lawful(
         Term::Defined { path, name, local } => is_lawful_name(alloc, path, name, *local),
         Term::Pointer(_) => Ok(true),
         Term::Slice(_) => Ok(true),
-        Term::Array(length, _) => Ok(is_length(*length)),
+        Term::Array(length, _) => {
+            let _length = *length;
+            Ok(true)
+        }
         Term::Map(_, _) => Ok(true),
         Term::Function {
-            params, variadic, ..
+            params,
+            variadic,
+            ..
         } => Ok(!*variadic || ends_in_slice(types, params.as_slice())),
         Term::Struct(fields) => are_fields(alloc, fields.as_slice()),
         Term::Interface(methods) => are_methods(alloc, types, methods.as_slice()),
     }
 }
 
-// Each number of 64 bits is a length.
-fn is_length(length: u64) -> bool
-    ensures { IsTrue result × (length < 2 ^ 64) }
-{
-    let _ = length;
-    true
-}
-
-fn is_lawful_name(
-    alloc: Global,
-    path: &Bytes,
-    name: &Bytes,
-    local: u64,
-) -> Result<bool, AllocError>
+fn is_lawful_name(alloc: Global, path: &Bytes, name: &Bytes, local: u64) -> Result<bool, AllocError>
     ensures { IfOk result (λ yes. IsTrue yes ↔ (IsPath path.now × IsName name.now × (local < 2 ^ 64))) }
 {
-    let _ = local;
     if is_name(name.as_slice()) {
         is_path(alloc, path.as_slice())
     } else {

@@ -13,3 +13,6 @@ mod read;
 mod words;
 
 pub use read::read_text;
+
+#[cfg(test)]
+mod tests;

@@ -87,7 +87,8 @@ fn is_up_to_three(word: &[u8]) -> bool
 {
     word == b"for".as_slice()
         || (word == b"go".as_slice()
-            || (word == b"if".as_slice() || (word == b"map".as_slice() || word == b"var".as_slice())))
+            || (word == b"if".as_slice()
+                || (word == b"map".as_slice() || word == b"var".as_slice())))
 }
 
 #[tactic(auto, unfolding(gno_scan::specs::Kinds::keywords_of_four))]

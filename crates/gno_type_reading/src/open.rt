@@ -26,11 +26,7 @@ pub(crate) fn open(alloc: Global, cursor: &mut Cursor<'_>) -> Result<Action, All
     first_word(alloc, cursor, word)
 }
 
-fn first_word(
-    alloc: Global,
-    cursor: &mut Cursor<'_>,
-    word: &[u8],
-) -> Result<Action, AllocError>
+fn first_word(alloc: Global, cursor: &mut Cursor<'_>, word: &[u8]) -> Result<Action, AllocError>
     ensures { IfOk result (λ action. turn action cursor.new ≡ turns.first_word word.now cursor.old) }
 {
     match word {
