@@ -122,14 +122,6 @@ module _ {A B : Type 0} (f g : A → B) where
   methods_in (t.Interface ms) = ms
   methods_in _ = []
 
-  params_in : TermOf B → List B
-  params_in (t.Function ps v rs) = ps
-  params_in _ = []
-
-  results_in : TermOf B → List B
-  results_in (t.Function ps v rs) = rs
-  results_in _ = []
-
   abbrev Alike : A → Type 0
   Alike a = f a ≡ g a
 

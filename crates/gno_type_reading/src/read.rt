@@ -35,6 +35,7 @@ pub fn read_text(
     }
 }
 
+// Whether a type's own text is this one.
 fn is_text(own: &Bytes, text: &[u8]) -> bool
     ensures { IsTrue result ↔ (own.now ≡ text.now) }
 {
