@@ -8,7 +8,8 @@ use Rattle.gno_layouts.specs.declared.row.Row.{Row}
 use Rattle.gno_layouts.specs.declared.settling.State.{State}
 use Rattle.gno_layouts.specs.declared.settling.State.TheVariants.{Waiting, Settled}
 use Rattle.gno_layouts.specs.Layouts.{parts, is_known}
-use Rattle.gno_layouts.specs.Settling.{layout_of, settled_at, In, Fits, IsHeldUp, EachFits, weight, waiting, Stacked, IsDue, IsBoard, IsIdle, CanGoOn, Visited, idle, waits, settles}
+use Rattle.gno_layouts.specs.Settling.{layout_of, settled_at, In, Fits, IsHeldUp, EachFits, Derived, EachDerived, weight, waiting, Stacked, IsDue, IsBoard, IsIdle, CanGoOn, Visited, idle, waits, settles}
+use Rattle.gno_layouts.proofs.Derived.{state_derived}
 use Rattle.gno_layouts.proofs.SetAt.{set_size, set_here, set_elsewhere, Same, here, elsewhere, where_is}
 use Rattle.gno_layouts.proofs.Totals.{Later, totals_later}
 
@@ -88,6 +89,7 @@ module _ (rows : List Row) (states : List State) (links : List (Option ℕ)) (to
     size = is.size;
     linked = is.linked;
     fits = is.fits;
+    derived = is.derived;
     stacked = is.stacked;
     told = is.told;
     bound = is.bound;
@@ -106,6 +108,7 @@ module _ (rows : List Row) (states : List State) (links : List (Option ℕ)) (to
       size = is.size;
       linked = is.linked;
       fits = is.fits;
+      derived = is.derived;
       stacked = is.stacked;
       told = is.told;
       bound = is.bound;
@@ -136,6 +139,15 @@ module _ (rows : List Row) (states : List State) (links : List (Option ℕ)) (to
               subst (λ t. Fits states r t) same_state (subst (λ x. Fits states x new) same_row fit)
           by (elsewhere f) = is.fits k r s h (sym (at_other states n can.place can.held can.waits new k f) ∙ w)
 
+      derived_after : EachDerived rows after
+      derived_after k layout e = by (where_is k n)
+        where
+          by : Same k n → Derived rows k layout
+          by (here h) =
+              let settled : layout_of (Some new) ≡ Some layout = ap layout_of (sym new_at) ∙ sym (ap (settled_at after) h) ∙ e in
+              subst (λ i. Derived rows i layout) (sym h) (state_derived rows states is.derived n row new layout can.row_at fit settled)
+          by (elsewhere f) = is.derived k layout (sym (ap layout_of (at_other states n can.place can.held can.waits new k f)) ∙ e)
+
       size_after : length after ≡ length rows
       size_after = set_size states n new ∙ is.size
 
@@ -161,6 +173,7 @@ module _ (rows : List Row) (states : List State) (links : List (Option ℕ)) (to
       size = size_after row can (Waiting place held) fit;
       linked = is.linked;
       fits = fits_after row can (Waiting place held) fit;
+      derived = derived_after row can (Waiting place held) fit;
       stacked = is.stacked;
       told = told_later states (slice_set states n (Waiting place held)) (later row can (Waiting place held) fit) stack is.told;
       bound = let e : waiting (slice_set states n (Waiting place held)) + 1 ≡ waiting states + 1 = waiting_set states n can.place can.held (Waiting place held) can.waits in let b = is.bound in omega (arith, e, b);
@@ -188,6 +201,7 @@ module _ (rows : List Row) (states : List State) (links : List (Option ℕ)) (to
       size = size_after row can (Settled layout) fit;
       linked = set_size links n top ∙ is.linked;
       fits = fits_after row can (Settled layout) fit;
+      derived = derived_after row can (Settled layout) fit;
       stacked = (refl, top, set_here links n top in_links, stacked_set links n top stack top not_on is.stacked);
       told = ((layout, ap layout_of (new_at row can (Settled layout) fit)), told_later states (slice_set states n (Settled layout)) (later row can (Settled layout) fit) stack is.told);
       bound = let e : waiting (slice_set states n (Settled layout)) + 1 ≡ waiting states + 0 = waiting_set states n can.place can.held (Settled layout) can.waits in let b = is.bound in omega (arith, e, b);

@@ -1,6 +1,6 @@
 -- A row whose underlying type is told.
 use Rattle.std.proofs.Common.{◌≡◌, refl, sym, ap, ◌∙◌, subst, ℕ, zero, ◌<◌, List, [], Option, Some, None, length, take, true, false, inl, inr, rules, arith}
-use Rattle.std.specs.Prelude.{◌⊎◌, slice_get, slice_set}
+use Rattle.std.specs.Prelude.{◌⊎◌, ⊤, slice_get, slice_set}
 use Rattle.std.specs.List.{AllByRecursion}
 use Rattle.std.proofs.lemmas.Option.{slice_get_within}
 use Rattle.gno_layouts.specs.declared.row.Layout.{Layout}
@@ -9,9 +9,10 @@ use Rattle.gno_layouts.specs.declared.row.Row.TheVariants.{Defined}
 use Rattle.gno_layouts.specs.declared.settling.State.{State}
 use Rattle.gno_layouts.specs.declared.settling.State.TheVariants.{Waiting, Settled}
 use Rattle.gno_layouts.specs.Layouts.{parts, is_known}
-use Rattle.gno_layouts.specs.Settling.{Totals, Fits, IsDue, IsBoard, AreRows, EachHasRows, AreHolders, AreLayouts, Holds}
+use Rattle.gno_layouts.specs.Settling.{Totals, Fits, EachDerived, IsDue, IsBoard, AreRows, EachHasRows, AreHolders, AreLayouts, Holds}
 use Rattle.gno_layouts.proofs.Agreed.{each_wider}
 use Rattle.gno_layouts.proofs.Boards.{waiting_within}
+use Rattle.gno_layouts.proofs.Derived.{each_true, derived_stays}
 use Rattle.gno_layouts.proofs.SetAt.{set_size, set_here, set_elsewhere, Same, here, elsewhere, where_is}
 
 unwrapped : {A : Type 0} {a b : A} → Some a ≡ Some b → a ≡ b
@@ -70,11 +71,28 @@ module _ (rows : List Row) (states : List State) (holders : List (List ℕ)) (li
       differ : false ≡ true → ⊥
       differ e = search (rules, e)
 
+  -- a row that was known is still there
+  row_stays : (n : ℕ) (r : Row) → slice_get rows n ≡ Some r → is_known r ≡ true → slice_get rows' n ≡ Some r
+  row_stays n r h known = by (where_is n number)
+    where
+      differ : false ≡ true → ⊥
+      differ e = search (rules, e)
+
+      by : Same n number → slice_get rows' n ≡ Some r
+      by (elsewhere f) = set_elsewhere rows number new n f ∙ h
+      by (here e) =
+          let same : Defined None ≡ r = unwrapped (sym undefined ∙ ap (slice_get rows) (sym e) ∙ h) in
+          absurd (differ (ap is_known same ∙ known))
+
+  defined_derived : EachDerived rows' states
+  defined_derived n layout e = derived_stays rows rows' (λ _. ⊤) (λ k r p h known. (row_stays k r h known, each_true (parts r))) n layout tt (are.settled.derived n layout e)
+
   pub defined_board : IsBoard rows' states links None [] (λ n. n ≡ number) (length rows')
   defined_board = record {
     size = are.settled.size ∙ sym size';
     linked = are.linked ∙ sym size';
     fits = λ n r s h k. fits_by n r s k (which n r h);
+    derived = defined_derived;
     due = λ n r place held h k known. due_by n r place held k known (which n r h);
     stacked = refl;
     told = tt;

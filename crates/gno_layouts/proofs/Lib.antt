@@ -4,6 +4,7 @@ pub mod Bounds
 pub mod Totals
 pub mod Fitting
 pub mod Agreed
+pub mod Derived
 pub mod Boards
 pub mod Told
 pub mod Theorem

@@ -1,13 +1,16 @@
 -- One row more.
-use Rattle.std.proofs.Common.{◌≡◌, sym, ◌∙◌, subst, ℕ, ◌+◌, ◌<◌, List, [], ◌∷◌, ◌++◌, Option, Some, None, length, length-append, arith}
-use Rattle.std.specs.Prelude.{slice_get}
+use Rattle.std.proofs.Common.{◌≡◌, sym, ap, ◌∙◌, subst, ℕ, ◌+◌, ◌<◌, List, [], ◌∷◌, ◌++◌, Option, Some, None, length, length-append, arith}
+use Rattle.std.specs.Prelude.{⊤, slice_get}
 use Rattle.std.specs.List.{AllByRecursion}
 use Rattle.std.proofs.lemmas.Option.{slice_get_within}
+use Rattle.gno_layouts.specs.declared.row.Layout.{Layout}
 use Rattle.gno_layouts.specs.declared.row.Row.{Row}
 use Rattle.gno_layouts.specs.declared.settling.State.{State}
+use Rattle.gno_layouts.specs.declared.settling.State.TheVariants.{Settled}
 use Rattle.gno_layouts.specs.Layouts.{parts}
-use Rattle.gno_layouts.specs.Settling.{Fits, Waits, AreRows, AreHolders, AreSettled, AreLayouts, Holds}
-use Rattle.gno_layouts.proofs.Ends.{Where, inside, last, get_where, get_left, some_at}
+use Rattle.gno_layouts.specs.Settling.{layout_of, Fits, Waits, Derived, EachDerived, AreRows, AreHolders, AreSettled, AreLayouts, Holds}
+use Rattle.gno_layouts.proofs.Ends.{Where, inside, last, get_where, get_left, get_last, some_at}
+use Rattle.gno_layouts.proofs.Derived.{settled_state, state_derived, each_true, derived_stays}
 use Rattle.gno_layouts.proofs.Agreed.{Agree, each_wider, fits_agree, waits_agree}
 
 pub same_before : {A : Type 0} (xs : List A) (y : A) (n : ℕ) → n < length xs → slice_get (xs ++ y ∷ []) n ≡ slice_get xs n
@@ -56,10 +59,21 @@ module _ (rows : List Row) (states : List State) (holders : List (List ℕ)) (li
     waits_by n r s (old h k) = waits_agree (length rows) states states' agree r s (are.parts n r h) (are.settled.waits n r s h k)
     waits_by n r s (new e f) = subst (λ x. Waits states' x s) e (subst (λ x. Waits states' row x) f (waits_agree (length rows) states states' agree row state below waits))
 
+    -- what was settled follows from the longer rows
+    derived_before : EachDerived rows' states
+    derived_before n layout e = derived_stays rows rows' (λ _. ⊤) (λ k r p h known. (get_left rows row k r h, each_true (parts r))) n layout tt (are.settled.derived n layout e)
+
+    derived_by : (n : ℕ) (layout : Layout) → Where states state n (Settled layout) → Derived rows' n layout
+    derived_by n layout (inside k) = derived_before n layout (ap layout_of k)
+    derived_by n layout (last e k) =
+        let at : slice_get rows' n ≡ Some row = ap (slice_get rows') (e ∙ are.settled.size) ∙ get_last rows row in
+        state_derived rows' states derived_before n row state layout at fit (ap (λ s. layout_of (Some s)) (sym k))
+
     settled' : AreSettled rows' states'
     settled' = record {
       size = let z = are.settled.size in let a = one_row in let b = length-append states (state ∷ []) in omega (arith, z, a, b);
       fits = λ n r s h k. fits_by n r s (both n r s (get_where rows row n r h) (get_where states state n s k));
+      derived = λ n layout e. derived_by n layout (get_where states state n (Settled layout) (settled_state (slice_get states' n) layout e));
       waits = λ n r s h k. waits_by n r s (both n r s (get_where rows row n r h) (get_where states state n s k));
     }
 

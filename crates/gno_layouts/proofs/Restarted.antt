@@ -6,9 +6,10 @@ use Rattle.std.proofs.lemmas.Option.{slice_get_within}
 use Rattle.gno_layouts.specs.declared.row.Row.{Row}
 use Rattle.gno_layouts.specs.declared.row.Row.TheVariants as r
 use Rattle.gno_layouts.specs.declared.settling.State.{State}
-use Rattle.gno_layouts.specs.declared.settling.State.TheVariants.{Waiting}
+use Rattle.gno_layouts.specs.declared.settling.State.TheVariants.{Waiting, Settled}
 use Rattle.gno_layouts.specs.Layouts.{parts, nothing, kept}
-use Rattle.gno_layouts.specs.Settling.{Fits, IsDue, IsBoard, AreRows, EachHasRows, AreHolders, Holds}
+use Rattle.gno_layouts.specs.Settling.{Fits, EachDerived, IsDue, IsBoard, AreRows, EachHasRows, AreHolders, Holds}
+use Rattle.gno_layouts.proofs.Derived.{settled_state}
 use Rattle.gno_layouts.proofs.Ends.{some_at}
 use Rattle.gno_layouts.proofs.Boards.{waiting_within}
 use Rattle.gno_layouts.proofs.SetAt.{before, set_here, set_elsewhere, Same, here, elsewhere, where_is}
@@ -19,12 +20,20 @@ unwrapped e = search (rules, e)
 fresh_fits : (states : List State) (row : Row) → Fits states row (Waiting zero nothing)
 fresh_fits states row = (nothing, refl, refl, omega arith)
 
+-- what begins is not settled
+fresh_derived : (rows : List Row) (states : List State) → ((n : ℕ) (state : State) → slice_get states n ≡ Some state → state ≡ Waiting zero nothing) → EachDerived rows states
+fresh_derived rows states begin n layout e = absurd (differ (begin n (Settled layout) (settled_state (slice_get states n) layout e)))
+  where
+    differ : Settled layout ≡ Waiting zero nothing → ⊥
+    differ d = search (rules, d)
+
 pub fresh_board : (rows : List Row) (states : List State) (links : List (Option ℕ)) → length states ≡ length rows → length links ≡ length rows → ((n : ℕ) (state : State) → slice_get states n ≡ Some state → state ≡ Waiting zero nothing)
     → IsBoard rows states links None [] (λ n. zero ≤ n) (length rows)
 fresh_board rows states links size linked begin = record {
   size = size;
   linked = linked;
   fits = λ n row state h k. subst (Fits states row) (sym (begin n state k)) (fresh_fits states row);
+  derived = fresh_derived rows states begin;
   due = λ n row place held h k known. inl (omega arith);
   stacked = refl;
   told = tt;
@@ -51,6 +60,7 @@ none_past rows states links top stack room number past is = record {
   size = is.size;
   linked = is.linked;
   fits = is.fits;
+  derived = is.derived;
   stacked = is.stacked;
   told = is.told;
   bound = is.bound;

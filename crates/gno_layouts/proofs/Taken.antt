@@ -1,14 +1,16 @@
 -- The first rows.
-use Rattle.std.proofs.Common.{◌≡◌, refl, sym, ap, ◌∙◌, ℕ, zero, suc, ◌-◌, ◌<◌, ◌≤◌, List, [], ◌∷◌, ◌++◌, Option, Some, length, length-append, take, arith}
+use Rattle.std.proofs.Common.{◌≡◌, refl, sym, ap, ◌∙◌, ℕ, zero, suc, ◌-◌, ◌<◌, ◌≤◌, List, [], ◌∷◌, ◌++◌, Option, Some, length, true, length-append, take, arith}
 use Rattle.std.specs.Prelude.{slice_get}
 use Rattle.std.specs.List.{AllByRecursion}
 use Rattle.std.proofs.lemmas.List.{length-take-le}
 use Rattle.std.proofs.lemmas.Option.{slice_get_within}
 use Rattle.gno_layouts.specs.declared.row.Row.{Row}
 use Rattle.gno_layouts.specs.declared.settling.State.{State}
-use Rattle.gno_layouts.specs.Layouts.{parts}
-use Rattle.gno_layouts.specs.Settling.{EachHasRows, AreLayouts, Holds}
+use Rattle.gno_layouts.specs.declared.settling.State.TheVariants.{Settled}
+use Rattle.gno_layouts.specs.Layouts.{parts, is_known}
+use Rattle.gno_layouts.specs.Settling.{layout_of, EachDerived, AreRows, EachHasRows, AreLayouts, Holds}
 use Rattle.gno_layouts.proofs.Agreed.{Agree, fits_agree, waits_agree}
+use Rattle.gno_layouts.proofs.Derived.{settled_state, derived_stays}
 
 module _ {A : Type 0} where
   pub get_taken : (size : ℕ) (xs : List A) (n : ℕ) → n < size → slice_get (take size xs) n ≡ slice_get xs n
@@ -44,6 +46,20 @@ module _ (rows : List Row) (states : List State) (holders : List (List ℕ)) (li
   state_at : (n : ℕ) (r : Row) (s : State) → slice_get (take size rows) n ≡ Some r → slice_get (take size states) n ≡ Some s → slice_get states n ≡ Some s
   state_at n r s h k = sym (get_taken size states n (row_below n r h)) ∙ k
 
+  -- a row that is left has the parts that it had
+  row_stays : (n : ℕ) (r : Row) → n < length (take size rows) → slice_get rows n ≡ Some r → is_known r ≡ true → (slice_get (take size rows) n ≡ Some r) × AreRows (length (take size rows)) r
+  row_stays n r w h known =
+      let below : n < size = (let z = length-take-le size rows within in omega (arith, w, z)) in
+      let there : slice_get (take size rows) n ≡ Some r = get_taken size rows n below ∙ h in
+      (there, parts_within n r there)
+
+  derived : EachDerived (take size rows) (take size states)
+  derived n layout e =
+      let w = slice_get_within (take size states) n (Settled layout) (settled_state (slice_get (take size states) n) layout e) in
+      let z = count states are.settled.size in
+      let left : n < length (take size rows) = omega (arith, w, z) in
+      derived_stays rows (take size rows) (λ k. k < length (take size rows)) row_stays n layout left (are.settled.derived n layout (sym (ap layout_of (agree n left)) ∙ e))
+
   still : (m n : ℕ) → n < length (take size rows) → Holds holders m n → Holds (take size holders) m n
   still m n w h = (h.0, get_taken size holders n (let z = length-take-le size rows within in omega (arith, w, z)) ∙ h.1, h.2)
 
@@ -57,6 +73,7 @@ module _ (rows : List Row) (states : List State) (holders : List (List ℕ)) (li
     settled = record {
       size = count states are.settled.size;
       fits = λ n r s h k. fits_agree (length (take size rows)) states (take size states) agree r s (parts_within n r h) (are.settled.fits n r s (row_at n r h) (state_at n r s h k));
+      derived = derived;
       waits = λ n r s h k. waits_agree (length (take size rows)) states (take size states) agree r s (parts_within n r h) (are.settled.waits n r s (row_at n r h) (state_at n r s h k));
     };
     held = record {

@@ -59,6 +59,7 @@ module _ (rows : List Row) (states : List State) (links : List (Option ℕ)) whe
         size = is.size;
         linked = is.linked;
         fits = is.fits;
+        derived = is.derived;
         stacked = subst (λ t. Stacked links t ms) (unwrapped (sym is.stacked.2 ∙ ap (slice_get links) (sym same) ∙ link)) is.stacked.3;
         told = is.told.1;
         bound = let b = is.bound in omega (arith, b);
@@ -81,7 +82,7 @@ module _ (rows : List Row) (states : List State) (links : List (Option ℕ)) whe
 
 module _ (rows : List Row) (states : List State) (links : List (Option ℕ)) (top : Option ℕ) (room : ℕ) where
   empty_settled : IsBoard rows states links top [] (λ _. ⊥) room → AreSettled rows states
-  empty_settled is = record { size = is.size; fits = is.fits; waits = λ n row state h w. by n row state h w } where
+  empty_settled is = record { size = is.size; fits = is.fits; derived = is.derived; waits = λ n row state h w. by n row state h w } where
     held_up : (row : Row) (place : ℕ) → ⊥ ⊎ IsDue states [] row place → IsHeldUp states row place
     held_up row place (inl f) = absurd f
     held_up row place (inr d) = (d.0, d.1, none_of d.2)

@@ -5,7 +5,7 @@ use Rattle.gno_layouts.specs.declared.row.Layout.{Layout}
 use Rattle.gno_layouts.specs.declared.row.Row.{Row}
 use Rattle.gno_layouts.specs.declared.settling.State.{State}
 use Rattle.gno_layouts.specs.declared.settling.State.TheVariants.{Waiting, Settled}
-use Rattle.gno_layouts.specs.Layouts.{parts, is_known, nothing, together, whole, saturated}
+use Rattle.gno_layouts.specs.Layouts.{parts, is_known, nothing, together, whole, saturated, HasLayout}
 
 abbrev pub layout_of : Option State → Option Layout
 layout_of (Some (Settled a)) = Some a
@@ -40,10 +40,19 @@ Waits states row (Settled layout) = ⊤
 abbrev pub EachFits : List Row → List State → Type 0
 EachFits rows states = (n : ℕ) (row : Row) (state : State) → slice_get rows n ≡ Some row → slice_get states n ≡ Some state → Fits states row state
 
--- what can settle has settled
+-- a row has this layout, up to the bound
+abbrev pub Derived : List Row → ℕ → Layout → Type 0
+Derived rows n layout = (a : Layout) × HasLayout rows n a × (layout ≡ saturated a)
+
+-- what is settled follows from the rows, so that none settled in a circle
+abbrev pub EachDerived : List Row → List State → Type 0
+EachDerived rows states = (n : ℕ) (layout : Layout) → settled_at states n ≡ Some layout → Derived rows n layout
+
+-- what can settle has settled, and nothing else
 pub record AreSettled (rows : List Row) (states : List State) : Type 0 where
   pub size : length states ≡ length rows
   pub fits : EachFits rows states
+  pub derived : EachDerived rows states
   pub waits : (n : ℕ) (row : Row) (state : State) → slice_get rows n ≡ Some row → slice_get states n ≡ Some state → Waits states row state
 
 -- ---- while rows settle
@@ -71,6 +80,7 @@ pub record IsBoard (rows : List Row) (states : List State) (links : List (Option
   pub size : length states ≡ length rows
   pub linked : length links ≡ length rows
   pub fits : EachFits rows states
+  pub derived : EachDerived rows states
   pub due : (n : ℕ) (row : Row) (place : ℕ) (held : Layout) → slice_get rows n ≡ Some row → slice_get states n ≡ Some (Waiting place held) → is_known row ≡ true → pending n ⊎ IsDue states stack row place
   pub stacked : Stacked links top stack
   pub told : AllByRecursion (λ n. (a : Layout) × (settled_at states n ≡ Some a)) stack

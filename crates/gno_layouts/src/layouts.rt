@@ -1,5 +1,5 @@
 // Rows, with the layout of each that has one.
-ghost use Rattle.std.specs.Prelude.{◌≡◌, ◌++◌, ◌∷◌, [], ◌<◌, ℕ, None, Some, List, IfOk, OnErr, OnOk, length, slice_get, slice_set};
+ghost use Rattle.std.specs.Prelude.{◌≡◌, ◌++◌, ◌∷◌, [], ◌<◌, ℕ, None, Some, List, IfOk, IfSome, IsNone, OnErr, OnOk, length, slice_get, slice_set};
 ghost use Rattle.gno_layouts.specs.Layouts.{HasLayout, kept, saturated, stands};
 ghost use Rattle.gno_layouts.specs.Settling.{AreRows, EachHasRows};
 ghost use Rattle.gno_layouts.specs.declared.row.Layout.{Layout};
@@ -56,7 +56,9 @@ impl Layouts {
 
     /// The layout of a row, with at most 2^64 - 1 slots. Takes constant time.
     pub fn layout(&self, number: usize) -> Option<Layout>
-        ensures { (layout : Layout) → HasLayout self.now number layout → result ≡ Some (saturated layout) }
+        ensures is { (layout : Layout) → HasLayout self.now number layout → result ≡ Some (saturated layout) }
+        ensures some { IfSome result (λ layout. (a : Layout) × HasLayout self.now number a × (layout ≡ saturated a)) }
+        ensures none { IsNone result → (a : Layout) → HasLayout self.now number a → ⊥ }
     {
         settled(&self.states, number)
     }

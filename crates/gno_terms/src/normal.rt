@@ -48,9 +48,16 @@ fn normalize_field(alloc: Global, field: &mut Field)
 fn normal_methods(alloc: Global, methods: List<Method>) -> Result<List<Method>, AllocError>
     ensures { IfOk result (λ it. it ≡ in_byte_order (map normal_method methods)) }
 {
+    in_byte_order(normal_packages(alloc, methods))
+}
+
+/// The methods with no package beside an exported name.
+pub fn normal_packages(alloc: Global, methods: List<Method>) -> List<Method>
+    ensures { result ≡ map normal_method methods }
+{
     let mut methods = methods.into_vec();
     normalize_methods(alloc, &mut methods);
-    in_byte_order(List::from_vec(methods))
+    List::from_vec(methods)
 }
 
 fn normalize_methods(alloc: Global, methods: &mut [Method])

@@ -14,7 +14,7 @@ use Rattle.gno_terms.proofs.Layers.{term_of-type_of}
 use Rattle.gno_terms.proofs.NormalTerms.{parts_of_normal}
 use Rattle.gno_terms.proofs.Parts.{Each-map, Each-weaken, parts_with}
 use Rattle.gno_terms.proofs.NormalTypes.{normal_of_normal_parts}
-use Rattle.gno_type_table.specs.RowTypes.{is_defined}
+use Rattle.gno_type_rows.specs.RowTypes.{is_defined}
 use Rattle.gno_type_reading.specs.Known.{Known, MayStand}
 use Rattle.gno_type_reading.specs.TypeTexts.{IsDefinedBy, OverDefined, AllOverDefined, over, none, more}
 

@@ -6,7 +6,7 @@ ghost use Rattle.gno_terms.specs.Lawful.{Each};
 ghost use Rattle.gno_terms.specs.Normal.{normal};
 ghost use Rattle.gno_terms.specs.Tables.{Grows, Is, deep, type_at};
 ghost use Rattle.gno_terms.specs.Terms.{parts, term_with};
-ghost use Rattle.gno_type_table.specs.RowTypes.{is_defined};
+ghost use Rattle.gno_type_rows.specs.RowTypes.{is_defined};
 ghost use Rattle.gno_type_reading.specs.Frames.{Says, is_open};
 ghost use Rattle.gno_type_reading.specs.Known.{Known, MayStand};
 ghost use Rattle.gno_type_reading.specs.TypeTexts.{IsTypeText};

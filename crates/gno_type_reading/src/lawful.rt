@@ -44,7 +44,13 @@ pub(crate) fn is_lawful(alloc: Global, types: &TypeTable, term: &Term) -> Result
     }
 }
 
-fn is_lawful_name(alloc: Global, path: &Bytes, name: &Bytes, local: u64) -> Result<bool, AllocError>
+/// Whether a defined type may have this name: its package a path, and its name an identifier.
+pub fn is_lawful_name(
+    alloc: Global,
+    path: &Bytes,
+    name: &Bytes,
+    local: u64,
+) -> Result<bool, AllocError>
     ensures { IfOk result (λ yes. IsTrue yes ↔ (IsPath path.now × IsName name.now × (local < 2 ^ 64))) }
 {
     if is_name(name.as_slice()) {

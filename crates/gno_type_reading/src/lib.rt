@@ -12,6 +12,7 @@ mod open;
 mod read;
 mod words;
 
+pub use lawful::is_lawful_name;
 pub use read::read_text;
 
 #[cfg(test)]

@@ -13,7 +13,7 @@ use Rattle.gno_terms.specs.Terms.{type_of, term_of, term_with}
 use Rattle.gno_terms.proofs.NormalTypes.{normal_of_normal_parts}
 use Rattle.gno_type_table.specs.ErrorParts.{text_type, error_function}
 use Rattle.gno_type_table.proofs.ErrorName.{error_is_exported, error_is_name}
-use Rattle.gno_type_table.proofs.Pushed.{term_of_type}
+use Rattle.gno_type_rows.proofs.Pushed.{term_of_type}
 
 pub normal_text : normal text_type ≡ text_type
 normal_text = normal_of_normal_parts (t.Basic Text) tt

@@ -1,5 +1,6 @@
 -- What a row says of the underlying type.
 use Rattle.std.proofs.Common.{◌≡◌, refl, sym, ap, ◌∙◌, subst, ℕ, List, Some}
+use Rattle.gno_embedding.specs.Embedding.{IsKnown}
 use Rattle.gno_terms.specs.declared.term.GoType.{GoType}
 use Rattle.gno_terms.specs.declared.term.TypeRef.{TypeRef}
 use Rattle.gno_terms.specs.declared.term.TermOf.{TermOf}
@@ -7,8 +8,8 @@ use Rattle.gno_terms.specs.declared.term.TermOf.TheVariants as t
 use Rattle.gno_terms.specs.declared.term.DefinitionOf.{DefinitionOf}
 use Rattle.gno_terms.specs.Tables.{Table, Is, Defines, Underlying, UnderlyingBy, deep, type_at, type_or, error_interface}
 use Rattle.gno_terms.specs.Terms.{term_of, term_with}
-use Rattle.gno_type_table.specs.RowTypes.{definition_with}
-use Rattle.gno_type_table.proofs.Pushed.{term_of_type}
+use Rattle.gno_type_rows.specs.RowTypes.{definition_with}
+use Rattle.gno_type_rows.proofs.Pushed.{term_of_type}
 
 module _ (table : Table) (r : TypeRef) (x : TermOf TypeRef) (row : Is table r (deep table.types x)) (s : GoType) (is : Is table r s) where
   term_is : term_of s ≡ term_with (type_at table.types) x
@@ -42,3 +43,11 @@ module _ (table : Table) (r : TypeRef) (x : TermOf TypeRef) (row : Is table r (d
 
   pub of_other : ((path name : List ℕ) (local : ℕ) → x ≡ t.Defined path name local → ⊥) → (x ≡ t.Error → ⊥) → Underlying table s s
   of_other f g = by_term s (itself x f g)
+
+  known_by : (y : TermOf TypeRef) → ((path name : List ℕ) (local : ℕ) → y ≡ t.Defined path name local → ⊥) → (u : GoType) × UnderlyingBy table s u (term_with (type_at table.types) y)
+  known_by (t.Defined path name local) f = absurd (f path name local refl)
+  known_by t.Error f = (error_interface, refl)
+  known_by _ f = (s, refl)
+
+  pub known_other : ((path name : List ℕ) (local : ℕ) → x ≡ t.Defined path name local → ⊥) → IsKnown table s
+  known_other f = let k = known_by x f in (k.0, by_term k.0 k.1)

@@ -1,5 +1,2 @@
-pub mod Keys
-pub mod RowTypes
 pub mod ErrorParts
-pub mod Holding
-pub mod Laid
+pub mod Kept

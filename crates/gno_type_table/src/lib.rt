@@ -1,10 +1,10 @@
 //! The table of types.
 #![tactic(auto)]
 
-mod key;
-mod laid;
+mod forgetting;
+mod keeping;
 mod predeclared;
-mod rows;
+mod searching;
 mod table;
 
 pub use table::TypeTable;

@@ -3,9 +3,9 @@ ghost use Rattle.std.specs.Prelude.{◌≡◌, IfOk};
 ghost use Rattle.gno_terms.specs.Tables.{Grows, Is, error_interface};
 ghost use Rattle.gno_type_table.specs.ErrorParts.{error_function, text_type};
 
-use crate::rows::Rows;
 use gno_base::{Bytes, Kind, List};
 use gno_terms::{Method, Term, TypeRef};
+use gno_type_rows::Rows;
 use std::alloc::{AllocError, Global};
 
 /// Adds the interface type that the predeclared type `error` has. Go specification, "Errors".

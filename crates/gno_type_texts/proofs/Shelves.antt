@@ -14,7 +14,7 @@ use Rattle.gno_terms.specs.Tables.{Table, Below, Grows, Is, PartsBelow, deep, ty
 use Rattle.gno_terms.specs.Terms.{term_of, term_with, field_of, field_with, method_of, method_with}
 use Rattle.gno_terms.proofs.Layers.{term_of-type_of, normal-at}
 use Rattle.gno_terms.proofs.Parts.{Each-append, Each-map, Each-weaken}
-use Rattle.gno_type_table.proofs.Pushed.{at_it}
+use Rattle.gno_type_rows.proofs.Pushed.{at_it}
 use Rattle.gno_type_texts.specs.Shelves.{AreFields, AreMethods, AreTyped, IsField, IsMethod, IsTypedAt}
 
 untyped_with : {A B : Type 0} (f : A → B) (x : TermOf A) → is_untyped (term_with f x) ≡ is_untyped x

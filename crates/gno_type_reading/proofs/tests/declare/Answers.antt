@@ -3,7 +3,7 @@ use Rattle.gno_terms.specs.declared.term.TermOf.TheVariants as t
 use Rattle.gno_terms.specs.Tables.{type_or}
 use Rattle.gno_terms.specs.Terms.{term_of}
 use Rattle.gno_terms.proofs.Layers.{term_of-type_of}
-use Rattle.gno_type_table.specs.RowTypes.{is_defined}
+use Rattle.gno_type_rows.specs.RowTypes.{is_defined}
 use Rattle.gno_type_reading.proofs.Standing.{normal_defined}
 use Rattle.gno_type_reading.proofs.tests.declare.Goals as goal
 

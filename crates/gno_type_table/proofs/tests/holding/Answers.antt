@@ -5,8 +5,8 @@ use Rattle.gno_terms.specs.declared.term.TermOf.TheVariants.{Basic}
 use Rattle.gno_terms.specs.declared.term.TypeRef.{TypeRef}
 use Rattle.gno_terms.specs.Tables.{Table, Is}
 use Rattle.gno_terms.specs.Terms.{type_of}
-use Rattle.gno_type_table.specs.Holding.{Slots, one, is_single}
-use Rattle.gno_type_table.proofs.Pushed.{term_of_type}
+use Rattle.gno_type_rows.specs.Holding.{Slots, one, is_single}
+use Rattle.gno_type_rows.proofs.Pushed.{term_of_type}
 use Rattle.gno_type_table.proofs.tests.holding.Goals as goal
 
 unwrapped : {a b : GoType} → Some a ≡ Some b → a ≡ b

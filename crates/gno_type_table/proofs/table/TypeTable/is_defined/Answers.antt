@@ -1,11 +1,11 @@
-use Rattle.std.proofs.Common.{◌≡◌, refl, ap, sym, subst, ◌∙◌, Bool, true, false, true≢false, Option, Some, None, Bor}
+use Rattle.std.proofs.Common.{◌≡◌, refl, ap, sym, subst, ◌∙◌, true≢false, Option, Some, None, Bor}
 use Rattle.std.specs.Prelude.{IfSome, IsNone, IsTrue, ◌↔◌}
 use Rattle.std.specs.Option.{is_some}
 use Rattle.gno_terms.specs.declared.term.GoType.{GoType}
 use Rattle.gno_terms.specs.declared.term.TypeRef.{TypeRef}
 use Rattle.gno_terms.specs.declared.term.DefinitionOf.{DefinitionOf}
 use Rattle.gno_terms.specs.Tables.{Table, Is, Defines, type_at, type_or}
-use Rattle.gno_type_table.specs.RowTypes.{definition_with}
+use Rattle.gno_type_rows.specs.RowTypes.{definition_with}
 use Rattle.gno_type_table.proofs.table.TypeTable.is_defined.Goals as goal
 
 module _ (table : Table) (r : TypeRef) (s : GoType) (is : Is table r s) where

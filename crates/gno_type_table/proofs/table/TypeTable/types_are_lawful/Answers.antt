@@ -1,4 +1,4 @@
-use Rattle.std.proofs.Common.{◌≡◌, sym, subst}
+use Rattle.std.proofs.Common.{sym, subst}
 use Rattle.gno_terms.specs.Tables.{Table, Is}
 use Rattle.gno_type_table.proofs.table.TypeTable.types_are_lawful.Goals as goal
 

@@ -2,8 +2,8 @@ use Rattle.std.proofs.Common.{refl, subst, length}
 use Rattle.gno_terms.specs.declared.term.GoType.{GoType}
 use Rattle.gno_terms.specs.declared.term.DefinitionOf.{DefinitionOf}
 use Rattle.gno_terms.specs.Tables.{Table, Is, Below, Defines, deep, type_at, error_interface}
-use Rattle.gno_type_table.specs.RowTypes.{definition_with}
-use Rattle.gno_type_table.proofs.Pushed.{at_it}
+use Rattle.gno_type_rows.specs.RowTypes.{definition_with}
+use Rattle.gno_type_rows.proofs.Pushed.{at_it}
 use Rattle.gno_type_table.proofs.Under.{of_error, of_defined, undefined, of_other}
 use Rattle.gno_type_table.proofs.table.TypeTable.underlying.Goals as goal
 
@@ -29,7 +29,7 @@ returns-in-Error c s is =
     let row = subst (λ (v : Table). Is v c.args.t (deep v.types c.term.result.now)) c.self.view_is c.term.ensures.is in (
       error_interface,
       of_error c.args.self.now c.args.t c.term.result.now row s is c.in-Error.is error_interface refl,
-      subst (λ (v : Table). Is v c.self.inside.error error_interface) c.self.view_is c.self.invariant,
+      subst (λ (v : Table). Is v c.self.inside.error error_interface) c.self.view_is c.self.invariant.error_is,
     )
 
 pub returns-in_default : goal.returns-in_default

@@ -1,0 +1,9 @@
+pub mod Paths
+pub mod Nearest
+pub mod Steps
+pub mod Ends
+pub mod Opened
+pub mod Walked
+pub mod Placed
+pub mod Alike
+pub mod Bounds

@@ -1,0 +1,5 @@
+pub mod Embedding
+pub mod Reaching
+pub mod Walking
+pub mod Nodes
+pub mod Same

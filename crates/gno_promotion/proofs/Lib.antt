@@ -1,0 +1,9 @@
+pub mod Sorting
+pub mod Leading
+pub mod Gathering
+pub mod Sorted
+pub mod Sources
+pub mod Entries
+pub mod Picking
+pub mod Selecting
+pub mod Finding

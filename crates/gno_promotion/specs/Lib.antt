@@ -1,0 +1,3 @@
+pub mod MethodSets
+pub mod Searches
+pub mod Candidates

@@ -1,0 +1,16 @@
+pub mod KeysDiffer
+pub mod KeyOrder
+pub mod Injective
+pub mod Pushed
+pub mod Numbered
+pub mod Beside
+pub mod Steps
+pub mod Told
+pub mod Forgotten
+pub mod Defining
+pub mod Empty
+pub mod Forms
+pub mod Laying
+pub mod Held
+pub mod Sized
+pub mod Retracting

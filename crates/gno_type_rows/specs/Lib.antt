@@ -1,0 +1,4 @@
+pub mod Keys
+pub mod RowTypes
+pub mod Holding
+pub mod Laid

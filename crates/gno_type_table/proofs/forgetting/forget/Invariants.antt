@@ -1,0 +1,7 @@
+use Rattle.std.proofs.Common.{length}
+use Rattle.gno_type_table.specs.Kept.{AreKept}
+use Rattle.gno_type_table.proofs.Putting.{FirstCut}
+use Rattle.gno_type_table.proofs.forgetting.forget.Given as goal
+
+abbrev pub invariant-loop-number : goal.invariant-loop-number
+invariant-loop-number l = AreKept (FirstCut l.rows l.number) (length l.rows.types) l.searches l.awaited

@@ -1,6 +1,0 @@
-use Rattle.std.specs.Prelude.{◌≡◌, ◌++◌, drop}
-use Rattle.gno_type_table.specs.Keys.{field_texts}
-use Rattle.gno_type_table.proofs.key.field_texts.Given as goal
-
-abbrev pub invariant-loop-field : goal.invariant-loop-field
-invariant-loop-field l = l.texts ++ field_texts (drop l.field-index l.fields) ≡ field_texts l.fields
