@@ -1,0 +1,3 @@
+pub mod FormsOfRows
+pub mod Basics
+pub mod Assigning

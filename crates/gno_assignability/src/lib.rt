@@ -1,0 +1,10 @@
+//! Assignability.
+#![tactic(auto)]
+
+mod assign;
+mod constants;
+mod forms;
+mod untyped;
+mod values;
+
+pub use assign::assignable;
