@@ -74,7 +74,7 @@ impl Types {
     }
 
     /// Notes the underlying type and the methods of a defined type, which are taken without packages beside exported names. An `Err`
-    /// changes nothing. Go specification, "Type definitions".
+    /// changes no type and no definition. Go specification, "Type definitions".
     pub fn define(
         &mut self,
         defined: TypeRef,
