@@ -1,0 +1,4 @@
+pub mod Digits
+pub mod EscapeValues
+pub mod Literals
+pub mod Parts
