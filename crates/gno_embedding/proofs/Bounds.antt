@@ -98,7 +98,7 @@ not_given x e a b c h =
 pub nothing_reached : (table : Table) → HasOneDefinition table → HasOneNumber table → (r : TypeRef) (x : TermOf TypeRef) → PartsBelow (length table.types) x → may_embed x ≡ false → AreReached table (deep table.types x) []
 nothing_reached table one number r x below e =
     let s : GoType = deep table.types x in
-    let root : Reached = record { of = r; depth = 0; followed = false; twice = false } in
+    let root : Reached = record { of = r; depth = 0; followed = false; twice = false; from = 0; place = 0; pointer = false } in
     let begin : IsWalking table s (root ∷ []) 0 0 = (s ∷ [], begun table s root refl refl refl) in
     let of : IsOfNode table s (root ∷ []) 0 s = record { node = root; at = refl; itself = λ z. refl; other = λ w. absurd (omega (arith, w)) } in
     let w = all_fields table one number s (root ∷ []) 0 0 begin s of [] (own_fields table x [] below (not_given x e) (sym (no_fields x e))) refl in

@@ -9,7 +9,7 @@ use Rattle.gno_terms.specs.Lawful.{Each}
 use Rattle.gno_terms.specs.Tables.{Table, Is}
 use Rattle.gno_embedding.specs.declared.ways.Reached.{Reached}
 use Rattle.gno_embedding.specs.Embedding.{Embeds, Leads, here, IsKnown}
-use Rattle.gno_embedding.specs.Reaching.{In, IsAmong, IsChain, EndsUnknown, IsBlocked, IsReached, Rises, AreDistinct, AreReached, number_of}
+use Rattle.gno_embedding.specs.Reaching.{In, IsAmong, IsChain, EndsUnknown, IsBlocked, IsNumbered, IsReached, IsStep, Rises, AreDistinct, AreReached, number_of}
 use Rattle.gno_embedding.specs.Walking.{HasOneDefinition, IsMet, IsMetPath, IsNode, IsWalk}
 use Rattle.gno_embedding.proofs.Paths.{along_of, same_leads}
 use Rattle.gno_embedding.proofs.Nearest.{Order, below, above, order, one_place, nearest, all_met}
@@ -53,7 +53,7 @@ module _ (table : Table) (s : GoType) (root : Reached) (depth : root.depth ≡ 0
     near = λ k it z p q. (let c : root.depth ≡ it.depth = ap (λ (w : Reached). w.depth) (only_one root it k p).1 in omega (arith, c, depth));
     each = λ k it x h t. subst (λ z. IsNode table s (s ∷ []) 0 0 z x) (only_one root it k h).1 (subst (λ z. IsNode table s (s ∷ []) 0 0 root z) (only_one s x k t).1 begun_node);
     closed = λ k it x place q w h t met e. absurd (not_met k place met);
-    chain = λ k x h w. absurd (let e = (only_one s x k h).0 in omega (arith, w, e));
+    chain = λ k it x h t w. absurd (let e = (only_one s x k t).0 in omega (arith, w, e));
     known = λ k x h w. absurd (omega (arith, w));
   }
 
@@ -189,12 +189,12 @@ module _ (table : Table) (s : GoType) (root : Reached) (its : List Reached) (typ
     chain_of i t h =
         let it = number_at js i t h in
         let x = type_of_node i it.0 (in_all i it.0 it.1) in
-        let b = walk.chain (suc i) x.0 x.1 (omega arith) in
+        let b = walk.chain (suc i) it.0 x.0 (in_all i it.0 it.1) x.1 (omega arith) in
         record {
           by = b.by;
-          among = among_by i it.0 it.1 b.number b.by b.at b.before;
-          place = b.place;
-          pointer = b.pointer;
+          among = among_by i it.0 it.1 it.0.from b.by b.at b.before;
+          place = it.0.place;
+          pointer = it.0.pointer;
           type = x.0;
           embeds = b.embeds;
           is = subst (λ (r : TypeRef). Is table r x.0) it.2 x.2;
@@ -220,6 +220,25 @@ module _ (table : Table) (s : GoType) (root : Reached) (its : List Reached) (typ
           twice = node.twice;
         }
 
+    numbered : (n : ℕ) (node : Reached) (u : GoType) → slice_get (root ∷ its) n ≡ Some node → slice_get types n ≡ Some u → IsNumbered table s its n node.depth u
+    numbered zero node u h t = (same_Some u s (sym t ∙ walk.first_type), ap (λ (z : Reached). z.depth) (one_place (root ∷ its) 0 0 h walk.first_at refl) ∙ walk.first_depth)
+    numbered (suc k) node u h t = (node, h, walk.is (suc k) node u h t (omega arith), refl)
+
+    step : (k : ℕ) (it : Reached) → slice_get its k ≡ Some it → IsStep table s its k it
+    step k it h =
+        let x = type_of_node k it h in
+        let b = walk.chain (suc k) it x.0 h x.1 (omega arith) in
+        record {
+          by = b.by;
+          depth = b.node.depth;
+          from = numbered it.from b.node b.by b.node_at b.at;
+          before = (let w = b.before in omega (arith, w));
+          type = x.0;
+          is = x.2;
+          embeds = b.embeds;
+          deeper = b.deeper;
+        }
+
     among : (k : ℕ) (u : GoType) → slice_get types k ≡ Some u → IsAmong table s (map number_of its) u
     among zero u h = inl (same_Some u s (sym h ∙ walk.first_type))
     among (suc k) u h = (let it = node_at k u h in inr (it.0.of, (place_in its k it.0 it.1).1, walk.is (suc k) it.0 u it.1 h (omega arith)))
@@ -239,6 +258,7 @@ module _ (table : Table) (s : GoType) (root : Reached) (its : List Reached) (typ
     pub reached_all : AreReached table s its
     reached_all = record {
       each = each_of (IsReached table s) its reached;
+      steps = step;
       rises = rises_of its (λ j k a b p q w. walk.rises (suc j) (suc k) a b p q (omega (arith, w)));
       distinct = distinct_of its (λ j k a b p q e.
           (let x = type_of_node j a p in

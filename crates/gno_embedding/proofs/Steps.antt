@@ -159,19 +159,41 @@ module _ (table : Table) (one : HasOneDefinition table) (s : GoType) (nodes : Li
         pub like_at : slice_get xs k ≡ Some like
         pub like_depth : like.depth ≡ j.depth
         pub like_of : like.of ≡ j.of
+        pub like_from : like.from ≡ j.from
+        pub like_place : like.place ≡ j.place
+        pub like_pointer : like.pointer ≡ j.pointer
+
+      like_itself : (xs : List Reached) (k : ℕ) (j : Reached) → slice_get xs k ≡ Some j → IsLike xs k j
+      like_itself xs k j h = record { like = j; like_at = h; like_depth = refl; like_of = refl; like_from = refl; like_place = refl; like_pointer = refl }
 
       back_by : (k : ℕ) (j : Reached) → Was k j → IsLike nodes k j
-      back_by k j (other f h) = record { like = j; like_at = h; like_depth = refl; like_of = refl }
-      back_by k j (marked_now e h) = record { like = it; like_at = ap (slice_get nodes) e ∙ there; like_depth = ap (λ (z : Reached). z.depth) (sym h); like_of = ap (λ (z : Reached). z.of) (sym h) }
+      back_by k j (other f h) = like_itself nodes k j h
+      back_by k j (marked_now e h) = record {
+        like = it;
+        like_at = ap (slice_get nodes) e ∙ there;
+        like_depth = ap (λ (z : Reached). z.depth) (sym h);
+        like_of = ap (λ (z : Reached). z.of) (sym h);
+        like_from = ap (λ (z : Reached). z.from) (sym h);
+        like_place = ap (λ (z : Reached). z.place) (sym h);
+        like_pointer = ap (λ (z : Reached). z.pointer) (sym h);
+      }
 
       back : (k : ℕ) (j : Reached) → slice_get nodes' k ≡ Some j → IsLike nodes k j
       back k j h = back_by k j (was_at k j (where_is k n) h)
 
       front_by : (k : ℕ) (j : Reached) → Same k n → slice_get nodes k ≡ Some j → IsLike nodes' k j
-      front_by k j (elsewhere f) h = record { like = j; like_at = set_elsewhere nodes n it' k f ∙ h; like_depth = refl; like_of = refl }
+      front_by k j (elsewhere f) h = like_itself nodes' k j (set_elsewhere nodes n it' k f ∙ h)
       front_by k j (here e) h =
           let same : it ≡ j = one_place nodes n k there h (sym e) in
-          record { like = it'; like_at = ap (slice_get nodes') e ∙ set_here nodes n it' (slice_get_within nodes n it there); like_depth = ap (λ (z : Reached). z.depth) same; like_of = ap (λ (z : Reached). z.of) same }
+          record {
+            like = it';
+            like_at = ap (slice_get nodes') e ∙ set_here nodes n it' (slice_get_within nodes n it there);
+            like_depth = ap (λ (z : Reached). z.depth) same;
+            like_of = ap (λ (z : Reached). z.of) same;
+            like_from = ap (λ (z : Reached). z.from) same;
+            like_place = ap (λ (z : Reached). z.place) same;
+            like_pointer = ap (λ (z : Reached). z.pointer) same;
+          }
 
       front : (k : ℕ) (j : Reached) → slice_get nodes k ≡ Some j → IsLike nodes' k j
       front k j h = front_by k j (where_is k n) h
@@ -203,6 +225,20 @@ module _ (table : Table) (one : HasOneDefinition table) (s : GoType) (nodes : Li
           let to_v : w ≡ v = only q w (subst (λ z. Embeds table z i q w) to_u (subst (λ n. Embeds table x n q w) b e)) in
           record { number = n; node = it; at = there; type = type ∙ ap Some (sym to_v); near = (let f : j.depth ≡ now.depth = ap (λ (z : Reached). z.depth) same in omega (arith, f, deep)) }
 
+      chain_like : (k : ℕ) (j : Reached) (x : GoType) → IsLike nodes k j → slice_get types k ≡ Some x → 0 < k → IsBehind table nodes' types k j x
+      chain_like k j x l t w =
+          let b = walk.chain k l.like x l.like_at t w in
+          let f = front l.like.from b.node b.node_at in
+          record {
+            before = (let a = b.before in let e = l.like_from in omega (arith, a, e));
+            node = f.like;
+            node_at = ap (slice_get nodes') (sym l.like_from) ∙ f.like_at;
+            deeper = (let a = b.deeper in let e = l.like_depth in let g = f.like_depth in omega (arith, a, e, g));
+            by = b.by;
+            at = ap (slice_get types) (sym l.like_from) ∙ b.at;
+            embeds = subst (λ q. Embeds table b.by j.place q x) l.like_pointer (subst (λ n. Embeds table b.by n l.like.pointer x) l.like_place b.embeds);
+          }
+
       first_like : IsLike nodes' 0 walk.first
       first_like = front 0 walk.first walk.first_at
 
@@ -220,14 +256,14 @@ module _ (table : Table) (one : HasOneDefinition table) (s : GoType) (nodes : Li
         near = λ k j z h p. (let b = back k j h in let c = back m z p in let e = walk.near k b.like c.like b.like_at c.like_at in let f = b.like_depth in let g = c.like_depth in omega (arith, e, f, g));
         each = λ k j x h t. each_by k j x (was_at k j (where_is k n) h) t;
         closed = λ k j x place q w h t met e. let b = back k j h in near_front (j.depth + 1) w (subst (λ d. IsNear nodes types (d + 1) w) b.like_depth (closed_by k b.like x place q w b.like_at t (met_now m i k place met) e));
-        chain = walk.chain;
+        chain = λ k j x h t w. chain_like k j x (back k j h) t w;
         known = walk.known;
       }
 
     -- it was not met before
     module _ (fresh : (k : ℕ) → slice_get types k ≡ Some v → ⊥) (t : TypeRef) (of : Is table t v) where
       abbrev found : Reached
-      found = record { of = t; depth = now.depth + 1; followed = now.followed || pointer; twice = now.twice }
+      found = record { of = t; depth = now.depth + 1; followed = now.followed || pointer; twice = now.twice; from = m; place = i; pointer = pointer }
 
       abbrev more : List Reached
       more = nodes ++ found ∷ []
@@ -359,9 +395,15 @@ module _ (table : Table) (one : HasOneDefinition table) (s : GoType) (nodes : Li
       closed_both k j x place q w (both_old h t) met e = closed_old k j x place q w h t (met_now m i k place met) e
       closed_both k j x place q w (both_new a b d) met e = absurd (let l = met_within m (i + 1) k place met in let z = walk.size in let y = within in omega (arith, l, a, z, y))
 
-      chain_by : (k : ℕ) (x : GoType) → Where types v k x → 0 < k → IsBehind table types' k x
-      chain_by k x (inside h) w = let b = walk.chain k x h w in record { number = b.number; before = b.before; by = b.by; at = wider' b.number b.by b.at; place = b.place; pointer = b.pointer; embeds = b.embeds }
-      chain_by k x (last e h) w = record { number = m; before = (let l = within in omega (arith, e, l)); by = u; at = wider' m u is; place = i; pointer = pointer; embeds = subst (λ z. Embeds table u i pointer z) (sym h) embeds }
+      chain_new : IsBehind table more types' (length nodes) found v
+      chain_new = record { before = slice_get_within nodes m now at; node = now; node_at = get_left nodes found m now at; deeper = refl; by = u; at = wider' m u is; embeds = embeds }
+
+      chain_by : (k : ℕ) (j : Reached) (x : GoType) → Both k j x → 0 < k → IsBehind table more types' k j x
+      chain_by k j x (both_old h t) w =
+          let b = walk.chain k j x h t w in
+          record { before = b.before; node = b.node; node_at = get_left nodes found j.from b.node b.node_at; deeper = b.deeper; by = b.by; at = wider' j.from b.by b.at; embeds = b.embeds }
+      chain_by k j x (both_new e f g) w =
+          subst (λ n. IsBehind table more types' n j x) (sym e) (subst (λ z. IsBehind table more types' (length nodes) z x) (sym f) (subst (λ z. IsBehind table more types' (length nodes) found z) (sym g) chain_new))
 
       pub added : IsWalk table s more types' m (i + 1)
       added = record {
@@ -377,6 +419,6 @@ module _ (table : Table) (one : HasOneDefinition table) (s : GoType) (nodes : Li
         near = λ k j z h p. near_by k j z (get_where nodes found k j h) (get_where nodes found m z p);
         each = λ k j x h e. each_both k j x (both k j x h e);
         closed = λ k j x place q w h t met e. closed_both k j x place q w (both k j x h t) met e;
-        chain = λ k x h w. chain_by k x (get_where types v k x h) w;
+        chain = λ k j x h t w. chain_by k j x (both k j x h t) w;
         known = λ k x h w. walk.known k x (narrow k x (omega (arith, w)) h) w;
       }

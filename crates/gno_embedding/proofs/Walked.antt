@@ -71,12 +71,13 @@ module _ (table : Table) (one : HasOneDefinition table) (number : HasOneNumber t
       (types, finished table one s nodes types m i walk of.node u of.at is (λ place pointer v e. (let w = past table u fields are one place pointer v e in omega (arith, w, size))) (are.underlying, are.by))
 
   module _ (pointer : Bool) (v : GoType) (embeds : Embeds table u i pointer v) (way : Reached) (to : Is table way.of v)
-      (depth : way.depth ≡ of.node.depth + 1) (followed : way.followed ≡ (of.node.followed || pointer)) (twice : way.twice ≡ of.node.twice) where
+      (depth : way.depth ≡ of.node.depth + 1) (followed : way.followed ≡ (of.node.followed || pointer)) (twice : way.twice ≡ of.node.twice)
+      (from : way.from ≡ m) (place : way.place ≡ i) (by_pointer : way.pointer ≡ pointer) where
     only : (q : Bool) (w : GoType) → Embeds table u i q w → v ≡ w
     only q w e = (same_embeds table one u i pointer q v w embeds e).1
 
-    found_is : record { of = way.of; depth = of.node.depth + 1; followed = of.node.followed || pointer; twice = of.node.twice } ≡ way
-    found_is = λ j. record { of = way.of; depth = sym depth j; followed = sym followed j; twice = sym twice j }
+    found_is : record { of = way.of; depth = of.node.depth + 1; followed = of.node.followed || pointer; twice = of.node.twice; from = m; place = i; pointer = pointer } ≡ way
+    found_is = λ j. record { of = way.of; depth = sym depth j; followed = sym followed j; twice = sym twice j; from = sym from j; place = sym place j; pointer = sym by_pointer j }
 
     type_at_node : (k : ℕ) (it : Reached) → slice_get nodes k ≡ Some it → (x : GoType) × (slice_get types k ≡ Some x)
     type_at_node k it h = some_at types k (let w = slice_get_within nodes k it h in let z = walk.size in omega (arith, w, z))

@@ -1,5 +1,5 @@
 -- All types that the embedded fields of a type lead to.
-use Rattle.std.specs.Prelude.{ℕ, ◌≡◌, ◌≢◌, ◌≤◌, ◌⊎◌, ⊤, List, [], ◌∷◌, Bool, true, false, Some, length, map, slice_get, take}
+use Rattle.std.specs.Prelude.{ℕ, zero, suc, ◌+◌, ◌≡◌, ◌≢◌, ◌≤◌, ◌⊎◌, ⊤, List, [], ◌∷◌, Bool, true, false, Some, length, map, slice_get, take}
 use Rattle.gno_terms.specs.declared.term.GoType.{GoType}
 use Rattle.gno_terms.specs.declared.term.TypeRef.{TypeRef}
 use Rattle.gno_terms.specs.Lawful.{Each}
@@ -59,6 +59,22 @@ pub record IsReached (table : Table) (s : GoType) (it : Reached) : Type 0 where
   pub once : it.twice ≡ false → (p : List ℕ) (followed : Bool) → Leads table s p followed type → length p ≡ it.depth → p ≡ path
   pub twice : it.twice ≡ true → (p : List ℕ) × (followed : Bool) × Leads table s p followed type × (length p ≡ it.depth) × (p ≢ path)
 
+-- a type by its number: 0 is the type itself, and k + 1 the one at place k. How deep it is
+abbrev pub IsNumbered : Table → GoType → List Reached → ℕ → ℕ → GoType → Type 0
+IsNumbered table s its zero depth u = (u ≡ s) × (depth ≡ 0)
+IsNumbered table s its (suc k) depth u = (it : Reached) × (slice_get its k ≡ Some it) × Is table it.of u × (it.depth ≡ depth)
+
+-- the last field of a shortest way to the one at place k: the number of the type where it stands, its place there, and whether it is a pointer
+pub record IsStep (table : Table) (s : GoType) (its : List Reached) (k : ℕ) (it : Reached) : Type 0 where
+  pub by : GoType
+  pub depth : ℕ
+  pub from : IsNumbered table s its it.from depth by
+  pub before : it.from ≤ k
+  pub type : GoType
+  pub is : Is table it.of type
+  pub embeds : Embeds table by it.place it.pointer type
+  pub deeper : it.depth ≡ depth + 1
+
 abbrev pub number_of : Reached → TypeRef
 number_of it = it.of
 
@@ -76,6 +92,7 @@ AreDistinct (t ∷ ts) = (In t ts → ⊥) × AreDistinct ts
 -- all that the type leads to, but for the type itself, each by its shortest ways
 pub record AreReached (table : Table) (s : GoType) (its : List Reached) : Type 0 where
   pub each : Each (IsReached table s) its
+  pub steps : (k : ℕ) (it : Reached) → slice_get its k ≡ Some it → IsStep table s its k it
   pub rises : Rises its
   pub distinct : AreDistinct (map number_of its)
   pub closed : IsClosed table s (map number_of its)

@@ -32,15 +32,15 @@ pub record IsNear (nodes : List Reached) (types : List GoType) (d : ℕ) (x : Go
   pub type : slice_get types number ≡ Some x
   pub near : node.depth ≤ d
 
--- an embedded field of a node before node k leads to its type
-pub record IsBehind (table : Table) (types : List GoType) (k : ℕ) (x : GoType) : Type 0 where
-  pub number : ℕ
-  pub before : number < k
+-- an embedded field of a node before node k, which is less deep by one, leads to its type
+pub record IsBehind (table : Table) (nodes : List Reached) (types : List GoType) (k : ℕ) (it : Reached) (x : GoType) : Type 0 where
+  pub before : it.from < k
+  pub node : Reached
+  pub node_at : slice_get nodes it.from ≡ Some node
+  pub deeper : it.depth ≡ node.depth + 1
   pub by : GoType
-  pub at : slice_get types number ≡ Some by
-  pub place : ℕ
-  pub pointer : Bool
-  pub embeds : Embeds table by place pointer x
+  pub at : slice_get types it.from ≡ Some by
+  pub embeds : Embeds table by it.place it.pointer x
 
 pub record IsWalk (table : Table) (s : GoType) (nodes : List Reached) (types : List GoType) (m i : ℕ) : Type 0 where
   pub first : Reached
@@ -55,7 +55,7 @@ pub record IsWalk (table : Table) (s : GoType) (nodes : List Reached) (types : L
   pub near : (k : ℕ) (it now : Reached) → slice_get nodes k ≡ Some it → slice_get nodes m ≡ Some now → it.depth ≤ now.depth + 1
   pub each : (k : ℕ) (it : Reached) (x : GoType) → slice_get nodes k ≡ Some it → slice_get types k ≡ Some x → IsNode table s types m i it x
   pub closed : (k : ℕ) (it : Reached) (x : GoType) (place : ℕ) (pointer : Bool) (v : GoType) → slice_get nodes k ≡ Some it → slice_get types k ≡ Some x → IsMet m i k place → Embeds table x place pointer v → IsNear nodes types (it.depth + 1) v
-  pub chain : (k : ℕ) (x : GoType) → slice_get types k ≡ Some x → 0 < k → IsBehind table types k x
+  pub chain : (k : ℕ) (it : Reached) (x : GoType) → slice_get nodes k ≡ Some it → slice_get types k ≡ Some x → 0 < k → IsBehind table nodes types k it x
   pub known : (k : ℕ) (x : GoType) → slice_get types k ≡ Some x → k < m → IsKnown table x
 
 abbrev pub IsWalking : Table → GoType → List Reached → ℕ → ℕ → Type 0

@@ -38,6 +38,9 @@ impl Nodes {
             depth: 0,
             followed: false,
             twice: false,
+            from: 0,
+            place: 0,
+            pointer: false,
         })?;
         let places = BTreeMap::new(alloc);
         Ok(Nodes { items, places })
@@ -85,19 +88,20 @@ impl Nodes {
     {
         rows.have_one_number();
         rows.have_one_definition();
-        for field in fields {
-            self.meet_field(rows, number, term, next, field)?;
+        for place in 0..fields.len() {
+            self.meet_field(rows, number, term, next, place, &fields[place])?;
         }
         Ok(())
     }
 
-    // Meets a field of a node.
+    // Meets the field at a place of a node.
     fn meet_field(
         &mut self,
         rows: &Rows,
         number: TypeRef,
         term: &Term,
         next: usize,
+        place: usize,
         field: &Field,
     ) -> Result<(), AllocError>
         requires parts { PartsBelow (length rows.now.types) term.now }
@@ -106,9 +110,9 @@ impl Nodes {
         requires embeds { may_embed term.now ≡ true }
         requires below { Below (length rows.now.types) field.now.of }
         requires within { next < length self.old.items.items }
-        requires at { (place : ℕ) × IsAt rows.now (deep rows.now.types term.now) self.old.items.items self.old.places next place }
-        ensures at { OnOk result ((u : GoType) (place : ℕ) → IsOfNode rows.now (deep rows.now.types term.now) self.old.items.items next u → IsFieldAt rows.now u place field.now
-            → IsAt rows.now (deep rows.now.types term.now) self.old.items.items self.old.places next place → IsAt rows.now (deep rows.now.types term.now) self.new.items.items self.new.places next (place + 1)) }
+        requires at { IsAt rows.now (deep rows.now.types term.now) self.old.items.items self.old.places next place }
+        ensures at { OnOk result ((u : GoType) → IsOfNode rows.now (deep rows.now.types term.now) self.old.items.items next u → IsFieldAt rows.now u place field.now
+            → IsAt rows.now (deep rows.now.types term.now) self.new.items.items self.new.places next (place + 1)) }
         ensures node { OnOk result ((u : GoType) → IsOfNode rows.now (deep rows.now.types term.now) self.old.items.items next u → IsOfNode rows.now (deep rows.now.types term.now) self.new.items.items next u) }
     {
         rows.have_one_number();
@@ -123,6 +127,9 @@ impl Nodes {
             depth: from.depth + 1,
             followed: from.followed || pointer,
             twice: from.twice,
+            from: next,
+            place,
+            pointer,
         };
         self.meet(rows, number, term, way)
     }

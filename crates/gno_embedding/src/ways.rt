@@ -12,6 +12,13 @@ pub struct Reached {
     pub followed: bool,
     /// Whether as many lead to it in another way.
     pub twice: bool,
+    /// The type where the last field of a shortest way stands: 0 is the type itself, and `k + 1` the reached type at place `k`,
+    /// which stands before this one.
+    pub from: usize,
+    /// The place of that field among the fields there.
+    pub place: usize,
+    /// Whether that field is a pointer.
+    pub pointer: bool,
 }
 
 /// The types that the embedded fields of a type lead to.

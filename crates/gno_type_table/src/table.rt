@@ -3,6 +3,7 @@ ghost use Rattle.std.specs.Prelude.{◌≡◌, ◌≢◌, ◌↔◌, ◌⊎◌, 
 ghost use Rattle.gno_embedding.specs.Embedding.{IsComplete};
 ghost use Rattle.gno_promotion.specs.MethodSets.{AreSelected};
 ghost use Rattle.gno_promotion.specs.Searches.{promoted_with};
+ghost use Rattle.gno_selectors.specs.Selectors.{IsSelection, IsSelectionBelow};
 ghost use Rattle.gno_terms.specs.declared.term.DefinitionOf.{DefinitionOf};
 ghost use Rattle.gno_terms.specs.declared.term.GoType.{GoType};
 ghost use Rattle.gno_terms.specs.declared.term.TypeRef.{TypeRef};
@@ -20,6 +21,7 @@ use crate::predeclared::error_interface;
 use crate::searching::{search_all, search_new, wake};
 use gno_base::List;
 use gno_promotion::{Promoted, Search};
+use gno_selectors::{Selection, find_selected};
 use gno_terms::{DefinitionOf, Method, Term, TypeRef, normal_packages, normal_term};
 use gno_type_rows::{Key, Rows};
 use std::alloc::{AllocError, Global};
@@ -289,5 +291,24 @@ impl TypeTable {
             Search::Found { methods, .. } => methods.as_slice(),
             Search::Blocked(_) => unreachable!(),
         }
+    }
+
+    /// What a name selects in a type of which each type is defined that its embedded fields lead to; what a pointer points at is not
+    /// looked at. The package is empty where the name is exported, and else the path of the package that asks. Takes time by the number
+    /// of the fields and methods of the type, and where none of these has the name by the number of types, fields and methods that its
+    /// embedded fields lead to, and its logarithm. Go specification, "Selectors".
+    pub fn select(
+        &self,
+        alloc: Global,
+        t: TypeRef,
+        name: &[u8],
+        package: &[u8],
+    ) -> Result<Selection, AllocError>
+        requires below { Below (length self.now.types) t }
+        requires complete { (s : GoType) → Is self.now t s → IsComplete self.now s }
+        ensures selection { IfOk result (λ it. (s : GoType) → Is self.now t s → IsSelection self.now s name.now «package».now it) }
+        ensures below { IfOk result (λ it. IsSelectionBelow (length self.now.types) it) }
+    {
+        find_selected(alloc, &self.rows, self.error, t, name, package)
     }
 }

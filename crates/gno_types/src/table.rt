@@ -3,6 +3,7 @@ ghost use Rattle.std.specs.Prelude.{◌≡◌, ◌≢◌, ◌↔◌, ◌⊎◌, 
 ghost use Rattle.gno_assignability.specs.Assignability.{IsAssignable};
 ghost use Rattle.gno_embedding.specs.Embedding.{IsComplete, IsKnown, base};
 ghost use Rattle.gno_promotion.specs.MethodSets.{IsMethodSet};
+ghost use Rattle.gno_selectors.specs.Selectors.{IsSelection, IsSelectionBelow};
 ghost use Rattle.gno_terms.specs.Lawful.{Each, IsLawful};
 ghost use Rattle.gno_terms.specs.Normal.{Identical, normal, normal_method};
 ghost use Rattle.gno_terms.specs.Tables.{Below, Defines, Grows, Is, IsOfPath, PartsBelow, Underlying, deep, type_at};
@@ -17,6 +18,7 @@ ghost use Rattle.gno_type_rows.specs.RowTypes.{definition_with, is_defined};
 
 use gno_base::{Bytes, List};
 use gno_constants::Constant;
+use gno_selectors::Selection;
 use gno_terms::{Method, Term, TypeRef};
 use gno_type_table::TypeTable;
 use std::alloc::{AllocError, Global};
@@ -197,6 +199,25 @@ impl Types {
         ensures below { IfOk result (λ ms. Each (Below (length self.now.types)) (map method_of ms)) }
     {
         Ok(gno_method_sets::method_set(alloc, &self.table, t)?)
+    }
+
+    /// What a name selects in a type of which each type is defined that its embedded fields lead to; what a pointer points at is not
+    /// looked at. The package is empty where the name is exported, and else the path of the package that asks. Takes time by the number
+    /// of the fields and methods of the type, and where none of these has the name by the number of types, fields and methods that its
+    /// embedded fields lead to, and its logarithm. Go specification, "Selectors".
+    pub fn select(
+        &self,
+        alloc: Global,
+        t: TypeRef,
+        name: &[u8],
+        package: &[u8],
+    ) -> Result<Selection, NoMemory>
+        requires below { Below (length self.now.types) t }
+        requires complete { (s : GoType) → Is self.now t s → IsComplete self.now s }
+        ensures selection { IfOk result (λ it. (s : GoType) → Is self.now t s → IsSelection self.now s name.now «package».now it) }
+        ensures below { IfOk result (λ it. IsSelectionBelow (length self.now.types) it) }
+    {
+        Ok(self.table.select(alloc, t, name, package)?)
     }
 
     /// The text of a type, in which a type that declarations define is its name. An untyped type has the empty text.

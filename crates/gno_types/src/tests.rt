@@ -2,7 +2,7 @@
 mod cases;
 mod trial;
 
-use cases::{ASSIGNMENTS, HOLDINGS, METHOD_SETS};
+use cases::{ASSIGNMENTS, HOLDINGS, METHOD_SETS, SELECTIONS};
 use std::test::Fail;
 use trial::new_bench;
 
@@ -17,6 +17,13 @@ fn method_sets_hold_what_embedded_fields_promote(rt: HostRuntime) -> Result<(), 
 fn what_is_assignable(rt: HostRuntime) -> Result<(), Fail> {
     let mut bench = new_bench(rt.alloc())?.ok_or("no table")?;
     assert_eq!(rt; bench.wrong_assignment(ASSIGNMENTS.as_slice())?, None);
+    Ok(())
+}
+
+#[test]
+fn what_names_select(rt: HostRuntime) -> Result<(), Fail> {
+    let mut bench = new_bench(rt.alloc())?.ok_or("no table")?;
+    assert_eq!(rt; bench.wrong_selection(SELECTIONS.as_slice())?, None);
     Ok(())
 }
 

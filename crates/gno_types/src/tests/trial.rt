@@ -9,7 +9,7 @@ ghost use Rattle.gno_terms.specs.declared.term.GoType.{GoType};
 ghost use Rattle.gno_type_rows.specs.RowTypes.{is_defined};
 
 use super::cases::{DECLARED, METHODS};
-use crate::{Constant, Method, Term, TypeRef, Types};
+use crate::{Constant, Method, Passed, Selection, Term, TypeRef, Types};
 use gno_base::{Bytes, Kind, List};
 use gno_type_reading::is_lawful_name;
 use std::alloc::{AllocError, Global};
@@ -268,6 +268,44 @@ impl Bench {
         Ok(assigns(&self.types, from, constant.as_ref(), to))
     }
 
+    /// The first type in which a name selects something else.
+    pub(super) fn wrong_selection(
+        &mut self,
+        cases: &[(&'static str, &'static str, &'static str, &'static str)],
+    ) -> Result<Option<(&'static str, &'static str)>, AllocError> {
+        for (text, name, package, wanted) in cases {
+            if !self.selects(text, name, package, wanted)? {
+                return Ok(Some((*text, *name)));
+            }
+        }
+        Ok(None)
+    }
+
+    fn selects(
+        &mut self,
+        text: &str,
+        name: &str,
+        package: &str,
+        wanted: &str,
+    ) -> Result<bool, AllocError> {
+        let Some(t) = self.read(text)? else {
+            return Ok(false);
+        };
+        if !is_selectable(&self.types, t) {
+            return Ok(false);
+        }
+        match self
+            .types
+            .select(self.alloc, t, name.as_bytes(), package.as_bytes())
+        {
+            Ok(selection) => {
+                let text = selection_text(self.alloc, &selection)?;
+                Ok(text.as_slice() == wanted.as_bytes())
+            }
+            Err(_) => Err(AllocError),
+        }
+    }
+
     /// The first type whose values hold something else.
     pub(super) fn wrong_holding(
         &mut self,
@@ -332,6 +370,20 @@ fn is_complete(types: &Types, t: TypeRef) -> bool
     types.contains(t) && types.is_complete(t)
 }
 
+// Whether it stands in the table, is no pointer, and all that its embedded fields lead to is defined.
+fn is_selectable(types: &Types, t: TypeRef) -> bool
+    ensures below { IsTrue result → Below (length types.now.types) t }
+    ensures complete { IsTrue result → (s : GoType) → Is types.now t s → IsComplete types.now s }
+{
+    if !is_complete(types, t) {
+        return false;
+    }
+    match types.term(t) {
+        Term::Pointer(_) => false,
+        _ => true,
+    }
+}
+
 fn assigns(types: &Types, from: TypeRef, constant: Option<&Constant>, to: TypeRef) -> Option<bool> {
     if !is_complete(types, from) {
         return None;
@@ -352,4 +404,43 @@ fn joined(alloc: Global, methods: &[Method]) -> Result<Bytes, AllocError> {
         names.extend_from_slice(method.name.as_slice())?;
     }
     Ok(names)
+}
+
+fn selection_text(alloc: Global, selection: &Selection) -> Result<Bytes, AllocError> {
+    match selection {
+        Selection::Missing => Bytes::from_slice(alloc, b"missing"),
+        Selection::Ambiguous => Bytes::from_slice(alloc, b"ambiguous"),
+        Selection::Field { way, place, .. } => {
+            let mut text = way_text(alloc, way.as_slice())?;
+            text.extend_from_slice(b"field ")?;
+            text.push(digit(*place))?;
+            Ok(text)
+        }
+        Selection::Method { way, method, .. } => {
+            let mut text = way_text(alloc, way.as_slice())?;
+            text.extend_from_slice(b"method ")?;
+            text.extend_from_slice(method.name.as_slice())?;
+            Ok(text)
+        }
+    }
+}
+
+// The places, each with a space behind it, and a star before that at pointers.
+fn way_text(alloc: Global, way: &[Passed]) -> Result<Bytes, AllocError> {
+    let mut text = Bytes::new(alloc);
+    for passed in way {
+        text.push(digit(passed.place))?;
+        if passed.pointer {
+            text.push(b'*')?;
+        }
+        text.push(b' ')?;
+    }
+    Ok(text)
+}
+
+fn digit(place: usize) -> u8 {
+    match b"0123456789".get(place) {
+        Some(digit) => *digit,
+        None => b'?',
+    }
 }

@@ -7,7 +7,7 @@ use Rattle.gno_promotion.proofs.gather.push_reached.Goals as goal
 
 -- what stands past the end
 none : Reached
-none = record { of = record { 0 = 0 }; depth = 0; followed = false; twice = false }
+none = record { of = record { 0 = 0 }; depth = 0; followed = false; twice = false; from = 0; place = 0; pointer = false }
 
 pub loop-it-preserved : goal.loop-it-preserved
 unfolding none

@@ -11,17 +11,18 @@ use Rattle.gno_embedding.proofs.nodes.Nodes.meet_field.Goals as goal
 use Rattle.gno_embedding.proofs.nodes.Nodes.meet_field.Goals.{then-from, else-from}
 
 pub returns-then-not-field-clause-at : goal.returns-then-not-field-clause-at
-returns-then-not-field-clause-at c u place of field at =
+returns-then-not-field-clause-at c u of field =
+    let at = c.requires.at in
     record {
       places_are = at.places_are;
-      walking = not_embedded c.args.rows.now c.have_one_definition.ensures c.have_one_number.ensures (deep c.args.rows.now.types c.args.term.now) c.args.self.now.items.items c.args.next place at.walking u of c.args.field.now field c.if-not-field.true;
+      walking = not_embedded c.args.rows.now c.have_one_definition.ensures c.have_one_number.ensures (deep c.args.rows.now.types c.args.term.now) c.args.self.now.items.items c.args.next c.args.place at.walking u of c.args.field.now field c.if-not-field.true;
     }
 
 pub overflow_add-way : goal.overflow_add-way
 overflow_add-way c =
     let nodes = c.args.self.now.items.items in
     let within : c.args.next < length nodes = c.requires.within in
-    let walk = c.requires.at.1.walking.1 in
+    let walk = c.requires.at.walking.1 in
     let low = walk.low c.args.next c.index-from.result.now (slice_get_read nodes (length nodes) c.args.next c.index-from.result.now refl within c.index-from.ensures) in
     let ok = c.args.self.now.items.ok in
     omega (arith, low, within, ok)
@@ -31,7 +32,8 @@ way_followed c = elim c.if-from.branch [ then-from w ↦ w.way'-is ∙ by_first 
 
 pub returns-clause-at : goal.returns-clause-at
 returns-clause-at c = ok_both c.meet.result c.meet.ensures.places c.meet.ensures.meets
-    (λ places meets u place of field at.
+    (λ places meets u of field.
+    let at = c.requires.at in
     let rows = c.args.rows.now in
     let nodes = c.args.self.now.items.items in
     let v : GoType = type_at rows.types c.pointed-pointer.result.0 in
@@ -39,13 +41,13 @@ returns-clause-at c = ok_both c.meet.result c.meet.ensures.places c.meet.ensures
     let followed : c.if-from.way' ≡ (c.index-from.result.now.followed || c.pointed-pointer.result.1) = way_followed c in
     record {
       places_are = places;
-      walking = met rows c.have_one_definition.ensures c.have_one_number.ensures (deep rows.types c.args.term.now) nodes c.args.next place at.walking u of c.pointed-pointer.result.1 v
-          (leads_to rows u place c.args.field.now field c.if-not-field.false c.pointed-pointer.result.1 v c.pointed-pointer.ensures.pointer c.pointed-pointer.ensures.base)
-          (record { of = c.pointed-pointer.result.0; depth = c.index-from.result.now.depth + 1; followed = c.if-from.way'; twice = c.index-from.result.now.twice })
+      walking = met rows c.have_one_definition.ensures c.have_one_number.ensures (deep rows.types c.args.term.now) nodes c.args.next c.args.place at.walking u of c.pointed-pointer.result.1 v
+          (leads_to rows u c.args.place c.args.field.now field c.if-not-field.false c.pointed-pointer.result.1 v c.pointed-pointer.ensures.pointer c.pointed-pointer.ensures.base)
+          (record { of = c.pointed-pointer.result.0; depth = c.index-from.result.now.depth + 1; followed = c.if-from.way'; twice = c.index-from.result.now.twice; from = c.args.next; place = c.args.place; pointer = c.pointed-pointer.result.1 })
           (at_it rows.types c.pointed-pointer.result.0 c.pointed-pointer.ensures.below)
           (ap (λ (z : Reached). z.depth + 1) same)
           (followed ∙ ap (λ (z : Reached). z.followed || c.pointed-pointer.result.1) same)
-          (ap (λ (z : Reached). z.twice) same) c.meet.new.self.items.items meets;
+          (ap (λ (z : Reached). z.twice) same) refl refl refl c.meet.new.self.items.items meets;
     })
 
 pub returns-clause-node : goal.returns-clause-node
