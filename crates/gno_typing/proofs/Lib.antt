@@ -1,0 +1,15 @@
+pub mod Parts
+pub mod GivenForms
+pub mod OperatorForms
+pub mod PrimaryForms
+pub mod CallForms
+pub mod BuiltinForms
+pub mod NameForms
+pub mod SelectorForms
+pub mod OneParts
+pub mod OneGiven
+pub mod OneTypes
+pub mod OneOperator
+pub mod OnePrimary
+pub mod OneCall
+pub mod OneBuiltin
