@@ -1,0 +1,4 @@
+pub mod Noting
+pub mod Answers
+pub mod Growing
+pub mod FoundLater

@@ -1,0 +1,4 @@
+pub mod Noting
+pub mod Stands
+pub mod Found
+pub mod Answers

@@ -1,0 +1,3 @@
+pub mod WrittenTypes
+pub mod Composites
+pub mod Judging
