@@ -2,3 +2,4 @@ pub mod Noting
 pub mod Answers
 pub mod Growing
 pub mod FoundLater
+pub mod Least

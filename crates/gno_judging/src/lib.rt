@@ -7,7 +7,7 @@ mod faults;
 mod laws;
 
 pub use faults::Faults;
-pub use laws::a_fault_is_told_where_one_was_noted;
+pub use laws::{a_fault_is_told_where_one_was_noted, the_told_fault_is_the_least};
 
 #[cfg(test)]
 mod tests;

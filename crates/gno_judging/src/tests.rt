@@ -1,4 +1,4 @@
-use crate::{Faults, a_fault_is_told_where_one_was_noted};
+use crate::{Faults, a_fault_is_told_where_one_was_noted, the_told_fault_is_the_least};
 use gno_scan::Pos;
 use gno_typing::Fault;
 use std::test::Fail;
@@ -27,5 +27,6 @@ fn the_first_fault_at_the_least_place_is_told(rt: HostRuntime) -> Result<(), Fai
         assert!(rt; matches!(faults.least(), Some(Fault { code, .. }) if code == told));
     }
     a_fault_is_told_where_one_was_noted();
+    the_told_fault_is_the_least();
     Ok(())
 }

@@ -1,2 +1,5 @@
 pub mod RuleForms
 pub mod ExprForms
+pub mod RuleOnes
+pub mod Forms
+pub mod ExprOnes

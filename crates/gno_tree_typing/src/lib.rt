@@ -6,4 +6,8 @@
 
 mod laws;
 
-pub use laws::{each_expression_has_a_form, each_written_type_has_a_form};
+pub use laws::{
+    each_expression_has_a_form, each_expression_has_one_verdict,
+    each_rule_of_literals_has_one_verdict, each_rule_of_types_has_one_verdict,
+    each_written_type_has_a_form, each_written_type_has_one_verdict,
+};

@@ -13,3 +13,6 @@ pub mod OneOperator
 pub mod OnePrimary
 pub mod OneCall
 pub mod OneBuiltin
+pub mod OneName
+pub mod OneSelected
+pub mod OneSelector

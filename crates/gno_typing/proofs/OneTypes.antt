@@ -29,7 +29,7 @@ use Rattle.gno_typing.proofs.OneParts.{Once}
 
 -- ---- terms
 
-same_pointer : {a b : GoType} → t.Pointer a ≡ t.Pointer b → a ≡ b
+pub same_pointer : {a b : GoType} → t.Pointer a ≡ t.Pointer b → a ≡ b
 same_pointer e = cc
 
 same_slice : {a b : GoType} → t.Slice a ≡ t.Slice b → a ≡ b

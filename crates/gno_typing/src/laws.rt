@@ -58,8 +58,8 @@ pub fn each_name_has_a_form()
     ensures exported { (ms : List Meaning) (at : Pos) (name : List ℕ) → HasForm (exported ms at name) }
 {}
 
-/// One verdict is right at most, also of operands of which some were not found; where a rule looks into a type, in a table in which
-/// a type has one definition at most. This states a law and does nothing.
+/// Each rule allows one verdict at most, also of operands of which some were not found; where it looks into a type, in a table in
+/// which a type has one definition at most. This states a law and does nothing.
 pub fn each_rule_has_one_verdict()
     ensures given { (table : Table) (code : ℕ) (at : Pos) (u : GoType) (x : ValueOf GoType) → HasOne (given table code at u x) }
     ensures unary { (table : Table) → HasOneDefinition table → (place : Pos) (operator : UnaryOperator) (x : ValueOf GoType) → HasOne (unary table place operator x) }
@@ -73,4 +73,7 @@ pub fn each_rule_has_one_verdict()
     ensures conversion { (table : Table) → HasOneDefinition table → (place : Pos) (u : GoType) (x : OperandOf GoType) → HasOne (conversion table place u x) }
     ensures call { (path : List ℕ) (direct : Bool) (table : Table) → HasOneDefinition table → (place : Pos) (spread : Bool) (x : OperandOf GoType) (xs : List (Option (OperandOf GoType))) → HasOne (call path direct table place spread x xs) }
     ensures builtin { (function : Builtin) (table : Table) → HasOneDefinition table → (place : Pos) (spread : Bool) (xs : List (Option (OperandOf GoType))) → HasOne (builtin function table place spread xs) }
+    ensures named { (ms : List Meaning) (at : Pos) (name : List ℕ) → HasOne (named ms at name) }
+    ensures exported { (ms : List Meaning) (at : Pos) (name : List ℕ) → HasOne (exported ms at name) }
+    ensures selector { (exports : List ℕ → List Meaning) (path : List ℕ) (table : Table) → HasOneDefinition table → (place : Pos) (name : List ℕ) (x : OperandOf GoType) → HasOne (selector exports path table place name x) }
 {}

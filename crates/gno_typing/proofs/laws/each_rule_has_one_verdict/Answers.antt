@@ -1,8 +1,10 @@
 use Rattle.gno_typing.proofs.OneBuiltin.{builtin_one}
 use Rattle.gno_typing.proofs.OneCall.{call_one}
 use Rattle.gno_typing.proofs.OneGiven.{given_one}
+use Rattle.gno_typing.proofs.OneName.{exported_one, named_one}
 use Rattle.gno_typing.proofs.OneOperator.{binary_one, unary_one}
 use Rattle.gno_typing.proofs.OnePrimary.{address_one, as_value_one, assertion_one, conversion_one, dereference_one, index_one, slice_one}
+use Rattle.gno_typing.proofs.OneSelector.{selector_one}
 use Rattle.gno_typing.proofs.laws.each_rule_has_one_verdict.Goals as goal
 
 pub returns-clause-given : goal.returns-clause-given
@@ -40,3 +42,12 @@ returns-clause-call c = λ path direct table one place spread x xs. call_one tab
 
 pub returns-clause-builtin : goal.returns-clause-builtin
 returns-clause-builtin c = λ function table one place spread xs. builtin_one table place one function spread xs
+
+pub returns-clause-named : goal.returns-clause-named
+returns-clause-named c = named_one
+
+pub returns-clause-exported : goal.returns-clause-exported
+returns-clause-exported c = exported_one
+
+pub returns-clause-selector : goal.returns-clause-selector
+returns-clause-selector c = selector_one
