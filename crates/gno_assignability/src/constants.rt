@@ -6,7 +6,7 @@ use gno_base::{Kind, Whole};
 use gno_constants::Constant;
 
 /// Whether a constant is a value of a kind. Go specification, "Representability".
-fn is_value(constant: &Constant, kind: Kind) -> bool
+pub fn is_value(constant: &Constant, kind: Kind) -> bool
     ensures { IsTrue result ↔ IsValue constant.now kind }
 {
     match constant {

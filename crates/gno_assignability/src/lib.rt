@@ -8,3 +8,4 @@ mod untyped;
 mod values;
 
 pub use assign::assignable;
+pub use constants::is_value;

@@ -1,0 +1,2 @@
+pub mod LaterBasics
+pub mod StandingForms

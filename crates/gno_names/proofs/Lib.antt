@@ -1,0 +1,4 @@
+pub mod Growing
+mod Innermost
+mod Judged
+mod TypeNames

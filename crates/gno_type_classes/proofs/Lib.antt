@@ -1,0 +1,9 @@
+pub mod ByClass
+pub mod Converting
+pub mod FormsOfRows
+pub mod Found
+pub mod Holding
+pub mod Indexed
+pub mod Known
+pub mod NameOfTypes
+pub mod OtherParts
