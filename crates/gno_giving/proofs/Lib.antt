@@ -1,2 +1,3 @@
 pub mod LaterBasics
 pub mod StandingForms
+pub mod Defaults

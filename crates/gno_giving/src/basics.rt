@@ -1,8 +1,9 @@
 // The basic types that rules speak of.
 ghost use Rattle.std.specs.Prelude.{◌≡◌, IfOk};
 ghost use Rattle.gno_giving.specs.Basics.{AreBasics};
-ghost use Rattle.gno_terms.specs.Tables.{Grows, Is};
-ghost use Rattle.gno_typing.specs.Classes.{basic};
+ghost use Rattle.gno_terms.specs.Tables.{Grows, Is, Table};
+ghost use Rattle.gno_terms.specs.declared.term.GoType.{GoType};
+ghost use Rattle.gno_typing.specs.Classes.{IsDefault, basic};
 
 use gno_base::Kind;
 use gno_terms::{Term, TypeRef};
@@ -43,6 +44,18 @@ impl Basics {
             uint,
             byte,
         })
+    }
+
+    /// The default type that has this kind. Go specification, "Constants".
+    pub fn default_of(self, kind: Kind) -> TypeRef
+        ensures { (table : Table) (s : GoType) → AreBasics table self → IsDefault s kind → Is table result (basic kind) }
+    {
+        match kind {
+            Kind::Bool => self.bool,
+            Kind::Text => self.text,
+            Kind::Int32 => self.rune,
+            _ => self.int,
+        }
     }
 }
 

@@ -4,6 +4,7 @@ ghost use Rattle.gno_judging.specs.Answers.{Answers};
 ghost use Rattle.gno_judging.specs.Found.{FormStands};
 ghost use Rattle.gno_terms.specs.Tables.{Is, Table};
 ghost use Rattle.gno_terms.specs.declared.term.GoType.{GoType};
+ghost use Rattle.gno_type_classes.specs.Unnumbered.{unnumbered};
 ghost use Rattle.gno_typed.specs.declared.expr.TypedExprOf.TheVariants as w;
 ghost use Rattle.gno_typing.specs.Forms.{closed};
 ghost use Rattle.gno_typing.specs.Giving.{typed_given};
@@ -22,7 +23,7 @@ use gno_typing::FormOf;
 use std::alloc::{AllocError, Global};
 
 // As a value of an interface type.
-fn boxed(
+pub(crate) fn boxed(
     alloc: Global,
     of: TypeRef,
     from: TypeRef,
@@ -47,7 +48,7 @@ pub fn typed_given(
     from: TypeRef,
     form: FormOf<TypeRef>,
 ) -> Result<Option<FormOf<TypeRef>>, AllocError>
-    ensures { (u s : GoType) (y : FormOf GoType) → Is types.now of u → Is types.now from s → FormStands types.now form y → IfOk result (λ r. Answers (typed_given types.now code at u s y) (FormStands types.now) faults.old faults.new r) }
+    ensures { (u s : GoType) (y : FormOf GoType) → Is types.now of u → Is types.now from s → FormStands types.now form y → IfOk result (λ r. Answers (typed_given (unnumbered types.now) code at u s y) (FormStands types.now) faults.old faults.new r) }
 {
     if takes(types, of, from) {
         if is_boxed(types, from, of) {

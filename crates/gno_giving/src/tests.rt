@@ -1,5 +1,8 @@
 // Forms and places, with ample memory.
-use crate::{Basics, closed, typed_given, with_logic, with_operation, with_step};
+use crate::{
+    Basics, closed, constant_given, default_constant, held, settled_constant, typed_given, with_logic,
+    with_operation, with_step,
+};
 use gno_base::{Kind, List, Shared};
 use gno_constants::Constant;
 use gno_judging::Faults;
@@ -37,6 +40,14 @@ fn sum(alloc: Global, of: TypeRef) -> Result<OperationOf<TypeRef>, AllocError> {
         boxed: None,
         operand: Shared::new(alloc, constant(of))?,
     })
+}
+
+// The code of the fault that is told, or 0.
+fn told(faults: &Faults) -> u8 {
+    match faults.least() {
+        Some(fault) => fault.code,
+        None => 0,
+    }
 }
 
 #[test]
@@ -80,11 +91,67 @@ fn values_take_the_types_of_their_places(rt: HostRuntime) -> Result<(), Fail> {
         let found = typed_given(alloc, &types, &mut faults, 49, AT, to, from, form)?;
         let boxed = matches!(&found, Some(FormOf::Whole(TypedExprOf::Interface { .. })));
         assert!(rt; boxed == types.identical(to, any));
-        let told = match faults.least() {
-            Some(fault) => fault.code,
-            None => 0,
-        };
-        assert!(rt; told == code);
+        assert!(rt; told(&faults) == code);
     }
+    Ok(())
+}
+
+#[test]
+fn constants_take_the_types_of_their_places(rt: HostRuntime) -> Result<(), Fail> {
+    let alloc = rt.alloc();
+    let mut types = TypeTable::new(alloc)?;
+    let basics = Basics::new(&mut types)?;
+    let any = types.intern(Term::Interface(List::new(alloc)))?;
+    let int = Kind::Int;
+    // the place, the untyped constant, and the code of the fault
+    let cases: [(TypeRef, i128, u8); 5] = [
+        (basics.byte, 255, 0),
+        (basics.byte, 256, 43),
+        (any, 9223372036854775807, 0),
+        (any, 9223372036854775808, 43),
+        (basics.text, 7, 49),
+    ];
+    for (to, value, code) in cases {
+        let mut faults = Faults::new();
+        let value = Constant::Whole(value);
+        let found = constant_given(
+            alloc,
+            &types,
+            basics,
+            &mut faults,
+            49,
+            AT,
+            to,
+            AT,
+            int,
+            value,
+        )?;
+        assert!(rt; found.is_some() == (code == 0));
+        assert!(rt; told(&faults) == code);
+    }
+    Ok(())
+}
+
+#[test]
+fn constants_have_default_types(rt: HostRuntime) -> Result<(), Fail> {
+    let alloc = rt.alloc();
+    let mut types = TypeTable::new(alloc)?;
+    let basics = Basics::new(&mut types)?;
+    let any = types.intern(Term::Interface(List::new(alloc)))?;
+    let rune = types.intern(Term::UntypedRune)?;
+    // the type of the constant, and that which it has where no place names one
+    for (from, to) in [(rune, basics.rune), (basics.byte, basics.byte)] {
+        let mut faults = Faults::new();
+        let value = Constant::Whole(97);
+        let found = settled_constant(&types, basics, &mut faults, AT, from, value);
+        assert!(rt; matches!(&found, Some(x) if types.identical(x.of, to)));
+    }
+    let mut faults = Faults::new();
+    let found = default_constant(basics, &mut faults, AT, Kind::Bool, Constant::Bool(true));
+    if let Some(x) = found {
+        let kept = held(alloc, &types, &mut faults, 49, AT, any, x)?;
+        assert!(rt; kept.is_some());
+    }
+    assert!(rt; told(&faults) == 0);
     Ok(())
 }

@@ -1,5 +1,6 @@
 -- How answers are put together.
-use Rattle.std.proofs.Common.{ℕ, ◌≡◌, refl, sym, ap, ◌∙◌, List, [], ◌∷◌, ◌++◌, Option, Some, None, inl, inr}
+use Rattle.std.proofs.Common.{ℕ, ◌≡◌, refl, sym, ap, ◌∙◌, List, [], ◌∷◌, ◌++◌, Option, Some, None, Result, Ok, Err, inl, inr}
+use Rattle.std.specs.Prelude.{IfOk}
 use Rattle.gno_judging.specs.Answers.{Answers}
 use Rattle.gno_judging.specs.Noting.{noted}
 use Rattle.gno_judging.specs.Stands.{BothStand}
@@ -53,6 +54,11 @@ module _ {A B C D : Type 0} (R : A → B → Type 0) (S : C → D → Type 0) (J
 
   pub after : (y : Option C) (a : A) → Answers J R old mid (Some a) → ((b : B) → R a b → Answers (go b) S mid new y) → Answers (After J go) S old new y
   after y a h k = after_by y a h.verdict.form h.verdict.faults h.judged h.notes h.stands k
+
+  -- where what is behind it may fail for want of memory
+  pub after_ok : {E : Type 0} (res : Result (Option C) E) (a : A) → Answers J R old mid (Some a) → ((b : B) → R a b → IfOk res (λ y. Answers (go b) S mid new y)) → IfOk res (λ y. Answers (After J go) S old new y)
+  after_ok (Ok y) a h k = after y a h k
+  after_ok (Err e) a h k = tt
 
 module _ {A B C D : Type 0} (R : A → B → Type 0) (S : C → D → Type 0) (J : Verdict B → Type 0) (go : B → Verdict D → Type 0) (old new : Option Fault) where
   after_none_by : (form : Option B) (fs : List Fault) → J (record { form = form; faults = fs }) → new ≡ noted old fs → BothStand R None form → Answers (After J go) S old new None

@@ -1,8 +1,10 @@
 -- What was found stands in a later table as well.
 use Rattle.std.proofs.Common.{List}
-use Rattle.gno_judging.specs.Found.{FormStands, OperandStands, PendingStands, PendingsStand, ValueStands}
+use Rattle.gno_judging.specs.Found.{ConstantTypeStands, FormStands, OperandStands, PendingStands, PendingsStand, TypeStands, ValueStands}
 use Rattle.gno_judging.specs.Found.{FormStands as form, OperandStands as operand, PendingStands as pending, PendingsStand as pendings, ValueStands as value}
-use Rattle.gno_judging.proofs.Growing.{both_later, bound_later, each_later, later_of, logic_later, operations_later, steps_later}
+use Rattle.gno_judging.specs.Stands.{EachStands}
+use Rattle.gno_judging.specs.Stands.{EachStands as each}
+use Rattle.gno_judging.proofs.Growing.{both_later, bound_later, later_of, logic_later, operations_later, steps_later}
 use Rattle.gno_terms.specs.declared.term.GoType.{GoType}
 use Rattle.gno_terms.specs.declared.term.TypeRef.{TypeRef}
 use Rattle.gno_terms.specs.Tables.{Grows, Table}
@@ -13,6 +15,16 @@ use Rattle.gno_typing.specs.declared.pending.PendingOperationOf.{PendingOperatio
 use Rattle.gno_typing.specs.declared.value.ValueOf.{ValueOf}
 
 module _ (table later : Table) (grows : Grows table later) where
+  pub type_later : (r : TypeRef) (s : GoType) → TypeStands table r s → TypeStands later r s
+  type_later r s h = record { is = grows r s h.is; typed = h.typed }
+
+  pub constant_type_later : (r : TypeRef) (s : GoType) → ConstantTypeStands table r s → ConstantTypeStands later r s
+  constant_type_later r s h = record { is = grows r s h.is; no_nil = h.no_nil }
+
+  pub types_later : (rs : List TypeRef) (ss : List GoType) → EachStands (TypeStands table) rs ss → EachStands (TypeStands later) rs ss
+  types_later _ _ each.none = each.none
+  types_later _ _ (each.more h hs) = each.more (type_later _ _ h) (types_later _ _ hs)
+
   pub form_later : (x : FormOf TypeRef) (y : FormOf GoType) → FormStands table x y → FormStands later x y
   form_later _ _ (form.whole h) = form.whole (later_of table later grows _ _ h)
   form_later _ _ (form.primary h hs) = form.primary (later_of table later grows _ _ h) (steps_later table later grows _ _ hs)
@@ -32,18 +44,18 @@ module _ (table later : Table) (grows : Grows table later) where
     pendings_later _ _ (pendings.count at operator e d h hs) = pendings.count at operator e d (later_of table later grows _ _ h) (pendings_later _ _ hs)
 
   pub value_later : (x : ValueOf TypeRef) (y : ValueOf GoType) → ValueStands table x y → ValueStands later x y
-  value_later _ _ (value.constant at x is) = value.constant at x (grows _ _ is)
+  value_later _ _ (value.constant at x is) = value.constant at x (constant_type_later _ _ is)
   value_later _ _ (value.nil at) = value.nil at
-  value_later _ _ (value.typed at standing calls is h) = value.typed at standing calls (grows _ _ is) (form_later _ _ h)
-  value_later _ _ (value.waiting at waits calls h) = value.waiting at waits calls (pending_later _ _ h)
+  value_later _ _ (value.typed at standing calls is h) = value.typed at standing calls (type_later _ _ is) (form_later _ _ h)
+  value_later _ _ (value.waiting at waits calls h w) = value.waiting at waits calls (pending_later _ _ h) w
 
   pub operand_later : (x : OperandOf TypeRef) (y : OperandOf GoType) → OperandStands table x y → OperandStands later x y
   operand_later _ _ (operand.value h) = operand.value (value_later _ _ h)
-  operand_later _ _ (operand.method at calls is h k) = operand.method at calls (grows _ _ is) (form_later _ _ h) (bound_later table later grows _ _ k)
-  operand_later _ _ (operand.crossing at code is) = operand.crossing at code (grows _ _ is)
-  operand_later _ _ (operand.results at of h) = operand.results at (each_later grows _ _ of) (form_later _ _ h)
-  operand_later _ _ (operand.type at is) = operand.type at (grows _ _ is)
-  operand_later _ _ (operand.open_array at is) = operand.open_array at (grows _ _ is)
+  operand_later _ _ (operand.method at calls is h k) = operand.method at calls (type_later _ _ is) (form_later _ _ h) (bound_later table later grows _ _ k)
+  operand_later _ _ (operand.crossing at code is) = operand.crossing at code (type_later _ _ is)
+  operand_later _ _ (operand.results at of h) = operand.results at (types_later _ _ of) (form_later _ _ h)
+  operand_later _ _ (operand.type at is) = operand.type at (type_later _ _ is)
+  operand_later _ _ (operand.open_array at is) = operand.open_array at (type_later _ _ is)
   operand_later _ _ (operand.imported at path) = operand.imported at path
   operand_later _ _ (operand.builtin at name) = operand.builtin at name
   operand_later _ _ (operand.cross at) = operand.cross at

@@ -47,26 +47,26 @@ never (inr (e, r)) go = go r
 -- ---- places
 
 -- a place is not past another one
-record AtMost (a b : Pos) : Type 0 where
+pub record AtMost (a b : Pos) : Type 0 where
   pub place : (a.file < b.file) ⊎ ((a.file ≡ b.file) × ((a.line < b.line) ⊎ ((a.line ≡ b.line) × (a.column ≤ b.column))))
 
 deeper : {x y : ℕ} {P Q : Type 0} → Past x y P → (P → Q) → Past x y Q
 deeper (inl l) go = inl l
 deeper (inr (e, p)) go = inr (e, go p)
 
-before_is : (a b : Pos) → is_before a b ≡ true → IsPast b a
+pub before_is : (a b : Pos) → is_before a b ≡ true → IsPast b a
 before_is a b e = record { place = deeper (part_true a.file b.file _ e) (λ d. deeper (part_true a.line b.line _ d) (λ c. ltb-true a.column b.column c)) }
 
-not_before : (a b : Pos) → is_before a b ≡ false → AtMost b a
+pub not_before : (a b : Pos) → is_before a b ≡ false → AtMost b a
 not_before a b e = record { place = deeper (part_false a.file b.file _ e) (λ d. deeper (part_false a.line b.line _ d) (λ c. ltb-false a.column b.column c)) }
 
-past_past : (a b c : Pos) → IsPast a b → IsPast b c → IsPast a c
+pub past_past : (a b c : Pos) → IsPast a b → IsPast b c → IsPast a c
 past_past a b c h k = record { place = chain k.place h.place (λ p q. chain p q lt_trans) }
 
-past_at_most : (a b c : Pos) → IsPast a b → AtMost c b → IsPast a c
+pub past_at_most : (a b c : Pos) → IsPast a b → AtMost c b → IsPast a c
 past_at_most a b c h k = record { place = chain k.place h.place (λ p q. chain p q lt_of_le_of_lt) }
 
-not_past : (a b : Pos) → AtMost a b → IsPast a b → ⊥
+pub not_past : (a b : Pos) → AtMost a b → IsPast a b → ⊥
 not_past a b h k = never (chain h.place k.place (λ p q. chain p q lt_of_le_of_lt)) (λ p. never p (lt_irrefl a.column))
 
 -- ---- lists

@@ -1,4 +1,5 @@
 pub mod Noting
 pub mod Stands
+pub mod Waiting
 pub mod Found
 pub mod Answers

@@ -1,6 +1,7 @@
 // The fault that is told.
-ghost use Rattle.std.specs.Prelude.{◌≡◌, ◌∷◌, [], None};
+ghost use Rattle.std.specs.Prelude.{◌≡◌, ◌∷◌, [], List, None};
 ghost use Rattle.gno_judging.specs.Noting.{is_before, noted};
+ghost use Rattle.gno_typing.specs.declared.fault.Fault.{Fault};
 
 use gno_scan::Pos;
 use gno_typing::Fault;
@@ -40,6 +41,15 @@ impl Faults {
             Some(least) if !is_before(pos, least.pos) => Some(least),
             _ => Some(fault),
         };
+    }
+
+    /// Notes the faults of another judgement, behind those that were noted here.
+    pub fn note_all(&mut self, others: Faults)
+        ensures { (fs : List Fault) → others ≡ noted None fs → self.new ≡ noted self.old fs }
+    {
+        if let Some(fault) = others.least {
+            self.note(fault.code, fault.pos);
+        }
     }
 
     /// The fault at the least place, where one was noted.

@@ -26,6 +26,13 @@ fn the_first_fault_at_the_least_place_is_told(rt: HostRuntime) -> Result<(), Fai
         faults.note(code, pos);
         assert!(rt; matches!(faults.least(), Some(Fault { code, .. }) if code == told));
     }
+    // faults that were noted apart, at the same place and at a lesser one
+    for (code, pos, told) in [(61, place(0, 7, 7), 60), (62, place(0, 7, 6), 62)] {
+        let mut others = Faults::new();
+        others.note(code, pos);
+        faults.note_all(others);
+        assert!(rt; matches!(faults.least(), Some(Fault { code, .. }) if code == told));
+    }
     a_fault_is_told_where_one_was_noted();
     the_told_fault_is_the_least();
     Ok(())

@@ -4,7 +4,7 @@ use Rattle.std.specs.Prelude.{if◌then◌else◌, ◌||◌, codes}
 use Rattle.std.specs.Str.{bytes_eq}
 use Rattle.gno_constants.specs.declared.constant.Constant.{Constant}
 use Rattle.gno_judging.specs.Answers.{Answers}
-use Rattle.gno_judging.specs.Found.{OperandStands}
+use Rattle.gno_judging.specs.Found.{ConstantTypeStands, OperandStands, TypeStands}
 use Rattle.gno_judging.specs.Found.{FormStands as form, OperandStands as operand, ValueStands as value}
 use Rattle.gno_judging.specs.Noting.{noted}
 use Rattle.gno_judging.specs.Stands.{BothStand}
@@ -18,7 +18,7 @@ use Rattle.gno_terms.specs.declared.term.TermOf.{TermOf}
 use Rattle.gno_terms.specs.declared.term.TermOf.TheVariants as t
 use Rattle.gno_terms.specs.declared.term.TypeRef.{TypeRef}
 use Rattle.gno_terms.specs.Exported.{is_exported}
-use Rattle.gno_terms.specs.Tables.{Is, Table}
+use Rattle.gno_terms.specs.Tables.{Table}
 use Rattle.gno_terms.specs.Terms.{term_of, term_with}
 use Rattle.gno_typed.specs.declared.code.CodeId.{CodeId}
 use Rattle.gno_typed.specs.declared.code.VariableId.{VariableId}
@@ -51,26 +51,26 @@ module _ {A B : Type 0} (R : A → B → Type 0) (J K : Verdict B → Type 0) (o
   pub is_not_so_by : b ≡ false → Answers K R old new x → Answers (by_test b J K) R old new x
   is_not_so_by e h = subst (λ b. Answers (by_test b J K) R old new x) (sym e) h
 
-module _ (table : Table) (at : Pos) (r : TypeRef) (s : GoType) (old : Option Fault) (is : Is table r s) where
+module _ (table : Table) (at : Pos) (r : TypeRef) (s : GoType) (old : Option Fault) (is : TypeStands table r s) where
   pub of_realm : (id : VariableId) → Answers (variable true at id s) (OperandStands table) old old (Some (o.Realm at))
   of_realm id = gives (OperandStands table) old _ _ (operand.realm at)
 
   pub of_variable : (id it : VariableId) → it ≡ id → Answers (variable false at id s) (OperandStands table) old old (Some (o.Value (v.Typed at r st.Place false (f.Whole (w.Variable at r it)))))
   of_variable id it e = subst (λ it. Answers (variable false at id s) (OperandStands table) old old (Some (o.Value (v.Typed at r st.Place false (f.Whole (w.Variable at r it)))))) (sym e)
-      (gives (OperandStands table) old _ _ (operand.value (value.typed at st.Place false is (form.whole (stands.variable at id is)))))
-
-  pub of_constant : (x it : Constant) → it ≡ x → Answers (good (o.Value (v.Constant at s x))) (OperandStands table) old old (Some (o.Value (v.Constant at r it)))
-  of_constant x it e = subst (λ it. Answers (good (o.Value (v.Constant at s x))) (OperandStands table) old old (Some (o.Value (v.Constant at r it)))) (sym e) (gives (OperandStands table) old _ _ (operand.value (value.constant at x is)))
+      (gives (OperandStands table) old _ _ (operand.value (value.typed at st.Place false is (form.whole (stands.variable at id is.is)))))
 
   pub of_crossing : (code it : CodeId) → it ≡ code → Answers (function true at code s) (OperandStands table) old old (Some (o.Crossing at r it))
   of_crossing code it e = subst (λ it. Answers (function true at code s) (OperandStands table) old old (Some (o.Crossing at r it))) (sym e) (gives (OperandStands table) old _ _ (operand.crossing at code is))
 
   pub of_function : (code it : CodeId) → it ≡ code → Answers (function false at code s) (OperandStands table) old old (Some (o.Value (v.Typed at r st.Result false (f.Whole (w.Function at r it)))))
   of_function code it e = subst (λ it. Answers (function false at code s) (OperandStands table) old old (Some (o.Value (v.Typed at r st.Result false (f.Whole (w.Function at r it)))))) (sym e)
-      (gives (OperandStands table) old _ _ (operand.value (value.typed at st.Result false is (form.whole (stands.function at code is)))))
+      (gives (OperandStands table) old _ _ (operand.value (value.typed at st.Result false is (form.whole (stands.function at code is.is)))))
 
   pub of_type : Answers (type_name false at s) (OperandStands table) old old (Some (o.Type at r))
   of_type = gives (OperandStands table) old _ _ (operand.type at is)
+
+pub of_constant : (table : Table) (at : Pos) (r : TypeRef) (s : GoType) (old : Option Fault) → ConstantTypeStands table r s → (x it : Constant) → it ≡ x → Answers (good (o.Value (v.Constant at s x))) (OperandStands table) old old (Some (o.Value (v.Constant at r it)))
+of_constant table at r s old is x it e = subst (λ it. Answers (good (o.Value (v.Constant at s x))) (OperandStands table) old old (Some (o.Value (v.Constant at r it)))) (sym e) (gives (OperandStands table) old _ _ (operand.value (value.constant at x is)))
 
 abbrev pub some : {A : Type 0} → Option A → Bool
 some (Some a) = true
@@ -115,28 +115,28 @@ module _ (table : Table) (at : Pos) (name : List ℕ) (old new : Option Fault) w
 
 -- what is known of a name by what stands for its meaning
 module _ (P : (Verdict (OperandOf GoType) → Type 0) → Type 0) (table : Table) (at : Pos) where
-  by_variable : (id : VariableId) (r : TypeRef) (y : NamedOf GoType) → NamedStands table (n.Variable id r) y → ((s : GoType) → Is table r s → P (variable (is_realm (term_of s)) at id s)) → P (meant at y)
+  by_variable : (id : VariableId) (r : TypeRef) (y : NamedOf GoType) → NamedStands table (n.Variable id r) y → ((s : GoType) → TypeStands table r s → P (variable (is_realm (term_of s)) at id s)) → P (meant at y)
   by_variable _ _ _ (stands_named.variable id is) h = h _ is
 
-  pub as_variable : (id : VariableId) (r : TypeRef) (x : NamedOf TypeRef) (y : NamedOf GoType) → x ≡ n.Variable id r → NamedStands table x y → ((s : GoType) → Is table r s → P (variable (is_realm (term_of s)) at id s)) → P (meant at y)
+  pub as_variable : (id : VariableId) (r : TypeRef) (x : NamedOf TypeRef) (y : NamedOf GoType) → x ≡ n.Variable id r → NamedStands table x y → ((s : GoType) → TypeStands table r s → P (variable (is_realm (term_of s)) at id s)) → P (meant at y)
   as_variable id r x y e is = by_variable id r y (subst (λ x. NamedStands table x y) e is)
 
-  by_constant : (value : Constant) (r : TypeRef) (y : NamedOf GoType) → NamedStands table (n.Constant r value) y → ((s : GoType) → Is table r s → P (good (o.Value (v.Constant at s value)))) → P (meant at y)
+  by_constant : (value : Constant) (r : TypeRef) (y : NamedOf GoType) → NamedStands table (n.Constant r value) y → ((s : GoType) → ConstantTypeStands table r s → P (good (o.Value (v.Constant at s value)))) → P (meant at y)
   by_constant _ _ _ (stands_named.constant value is) h = h _ is
 
-  pub as_constant : (value : Constant) (r : TypeRef) (x : NamedOf TypeRef) (y : NamedOf GoType) → x ≡ n.Constant r value → NamedStands table x y → ((s : GoType) → Is table r s → P (good (o.Value (v.Constant at s value)))) → P (meant at y)
+  pub as_constant : (value : Constant) (r : TypeRef) (x : NamedOf TypeRef) (y : NamedOf GoType) → x ≡ n.Constant r value → NamedStands table x y → ((s : GoType) → ConstantTypeStands table r s → P (good (o.Value (v.Constant at s value)))) → P (meant at y)
   as_constant value r x y e is = by_constant value r y (subst (λ x. NamedStands table x y) e is)
 
-  by_type_name : (r : TypeRef) (y : NamedOf GoType) → NamedStands table (n.TypeName r) y → ((s : GoType) → Is table r s → P (type_name (is_realm (term_of s)) at s)) → P (meant at y)
+  by_type_name : (r : TypeRef) (y : NamedOf GoType) → NamedStands table (n.TypeName r) y → ((s : GoType) → TypeStands table r s → P (type_name (is_realm (term_of s)) at s)) → P (meant at y)
   by_type_name _ _ (stands_named.type_name is) h = h _ is
 
-  pub as_type_name : (r : TypeRef) (x : NamedOf TypeRef) (y : NamedOf GoType) → x ≡ n.TypeName r → NamedStands table x y → ((s : GoType) → Is table r s → P (type_name (is_realm (term_of s)) at s)) → P (meant at y)
+  pub as_type_name : (r : TypeRef) (x : NamedOf TypeRef) (y : NamedOf GoType) → x ≡ n.TypeName r → NamedStands table x y → ((s : GoType) → TypeStands table r s → P (type_name (is_realm (term_of s)) at s)) → P (meant at y)
   as_type_name r x y e is = by_type_name r y (subst (λ x. NamedStands table x y) e is)
 
-  by_function : (code : CodeId) (r : TypeRef) (crossing : Bool) (y : NamedOf GoType) → NamedStands table (n.Function code r crossing) y → ((s : GoType) → Is table r s → P (function crossing at code s)) → P (meant at y)
+  by_function : (code : CodeId) (r : TypeRef) (crossing : Bool) (y : NamedOf GoType) → NamedStands table (n.Function code r crossing) y → ((s : GoType) → TypeStands table r s → P (function crossing at code s)) → P (meant at y)
   by_function _ _ _ _ (stands_named.function code crossing is) h = h _ is
 
-  pub as_function : (code : CodeId) (r : TypeRef) (crossing : Bool) (x : NamedOf TypeRef) (y : NamedOf GoType) → x ≡ n.Function code r crossing → NamedStands table x y → ((s : GoType) → Is table r s → P (function crossing at code s)) → P (meant at y)
+  pub as_function : (code : CodeId) (r : TypeRef) (crossing : Bool) (x : NamedOf TypeRef) (y : NamedOf GoType) → x ≡ n.Function code r crossing → NamedStands table x y → ((s : GoType) → TypeStands table r s → P (function crossing at code s)) → P (meant at y)
   as_function code r crossing x y e is = by_function code r crossing y (subst (λ x. NamedStands table x y) e is)
 
   by_package : (path : List ℕ) (y : NamedOf GoType) → NamedStands table (n.Package path) y → P (good (o.Package at path)) → P (meant at y)

@@ -1,7 +1,7 @@
 -- What the rules say of the names of types.
 use Rattle.std.proofs.Common.{ℕ, ◌≡◌, refl, subst, List, [], ◌∷◌, true, false, Option, Some, None}
 use Rattle.gno_judging.specs.Answers.{Answers}
-use Rattle.gno_judging.specs.Found.{OperandStands}
+use Rattle.gno_judging.specs.Found.{OperandStands, TypeStands}
 use Rattle.gno_judging.specs.Found.{OperandStands as operand}
 use Rattle.gno_judging.specs.Noting.{noted}
 use Rattle.gno_judging.specs.Stands.{BothStand}
@@ -13,7 +13,7 @@ use Rattle.gno_names.proofs.Judged.{by_false, by_true}
 use Rattle.gno_scan.specs.declared.token.Pos.{Pos}
 use Rattle.gno_terms.specs.declared.term.GoType.{GoType}
 use Rattle.gno_terms.specs.declared.term.TypeRef.{TypeRef}
-use Rattle.gno_terms.specs.Tables.{Is, Table}
+use Rattle.gno_terms.specs.Tables.{Table}
 use Rattle.gno_tree_typing.specs.WrittenTypes.{as_type, qualified_type, type_in, type_named}
 use Rattle.gno_typed.specs.declared.scope.NamedOf.{NamedOf}
 use Rattle.gno_typed.specs.declared.scope.NamedOf.TheVariants as n
@@ -25,23 +25,23 @@ use Rattle.gno_typing.specs.declared.fault.Fault.{Fault}
 use Rattle.gno_typing.specs.declared.operand.OperandOf.{OperandOf}
 use Rattle.gno_typing.specs.declared.operand.OperandOf.TheVariants as o
 
-the_type_by : (table : Table) (at place : Pos) (old : Option Fault) (r : TypeRef) (y : OperandOf GoType) → OperandStands table (o.Type place r) y → Answers (as_type at y) (Is table) old old (Some r)
-the_type_by table at _ old _ _ (operand.type place is) = gives (Is table) old _ _ is
+the_type_by : (table : Table) (at place : Pos) (old : Option Fault) (r : TypeRef) (y : OperandOf GoType) → OperandStands table (o.Type place r) y → Answers (as_type at y) (TypeStands table) old old (Some r)
+the_type_by table at _ old _ _ (operand.type place is) = gives (TypeStands table) old _ _ is
 
-pub the_type : (table : Table) (at place : Pos) (old : Option Fault) (r : TypeRef) (x : OperandOf TypeRef) (y : OperandOf GoType) → x ≡ o.Type place r → OperandStands table x y → Answers (as_type at y) (Is table) old old (Some r)
+pub the_type : (table : Table) (at place : Pos) (old : Option Fault) (r : TypeRef) (x : OperandOf TypeRef) (y : OperandOf GoType) → x ≡ o.Type place r → OperandStands table x y → Answers (as_type at y) (TypeStands table) old old (Some r)
 the_type table at place old r x y e h = the_type_by table at place old r y (subst (λ x. OperandStands table x y) e h)
 
-pub no_type : (table : Table) (at : Pos) (old new : Option Fault) (x : OperandOf TypeRef) (y : OperandOf GoType) → OperandStands table x y → ((place : Pos) (r : TypeRef) → x ≡ o.Type place r → ⊥) → new ≡ noted old (record { code = 41; pos = at } ∷ []) → Answers (as_type at y) (Is table) old new None
+pub no_type : (table : Table) (at : Pos) (old new : Option Fault) (x : OperandOf TypeRef) (y : OperandOf GoType) → OperandStands table x y → ((place : Pos) (r : TypeRef) → x ≡ o.Type place r → ⊥) → new ≡ noted old (record { code = 41; pos = at } ∷ []) → Answers (as_type at y) (TypeStands table) old new None
 no_type table at old new _ _ (operand.type place is) h e = absurd (h place _ refl)
-no_type table at old new _ _ (operand.value k) h e = refuses (Is table) 41 at old new e
-no_type table at old new _ _ (operand.method place calls is k bound) h e = refuses (Is table) 41 at old new e
-no_type table at old new _ _ (operand.crossing place code is) h e = refuses (Is table) 41 at old new e
-no_type table at old new _ _ (operand.results place of k) h e = refuses (Is table) 41 at old new e
-no_type table at old new _ _ (operand.open_array place is) h e = refuses (Is table) 41 at old new e
-no_type table at old new _ _ (operand.imported place path) h e = refuses (Is table) 41 at old new e
-no_type table at old new _ _ (operand.builtin place name) h e = refuses (Is table) 41 at old new e
-no_type table at old new _ _ (operand.cross place) h e = refuses (Is table) 41 at old new e
-no_type table at old new _ _ (operand.realm place) h e = refuses (Is table) 41 at old new e
+no_type table at old new _ _ (operand.value k) h e = refuses (TypeStands table) 41 at old new e
+no_type table at old new _ _ (operand.method place calls is k bound) h e = refuses (TypeStands table) 41 at old new e
+no_type table at old new _ _ (operand.crossing place code is) h e = refuses (TypeStands table) 41 at old new e
+no_type table at old new _ _ (operand.results place of k) h e = refuses (TypeStands table) 41 at old new e
+no_type table at old new _ _ (operand.open_array place is) h e = refuses (TypeStands table) 41 at old new e
+no_type table at old new _ _ (operand.imported place path) h e = refuses (TypeStands table) 41 at old new e
+no_type table at old new _ _ (operand.builtin place name) h e = refuses (TypeStands table) 41 at old new e
+no_type table at old new _ _ (operand.cross place) h e = refuses (TypeStands table) 41 at old new e
+no_type table at old new _ _ (operand.realm place) h e = refuses (TypeStands table) 41 at old new e
 
 -- what is known of a type by what stands for the meaning of its name
 module _ (P : (Verdict GoType → Type 0) → Type 0) (packages : List ℕ → List Meaning) (table : Table) (at : Pos) (name : List ℕ) where

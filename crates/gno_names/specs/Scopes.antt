@@ -2,9 +2,10 @@
 use Rattle.std.specs.Prelude.{ℕ, ◌≡◌, codes, List, [], ◌∷◌, Bool, ◌||◌, if◌then◌else◌, Option, Some}
 use Rattle.std.specs.Str.{bytes_eq}
 use Rattle.gno_constants.specs.declared.constant.Constant.{Constant}
+use Rattle.gno_judging.specs.Found.{ConstantTypeStands, TypeStands}
 use Rattle.gno_terms.specs.declared.term.GoType.{GoType}
 use Rattle.gno_terms.specs.declared.term.TypeRef.{TypeRef}
-use Rattle.gno_terms.specs.Tables.{Is, Table}
+use Rattle.gno_terms.specs.Tables.{Table}
 use Rattle.gno_typed.specs.declared.code.CodeId.{CodeId}
 use Rattle.gno_typed.specs.declared.code.VariableId.{VariableId}
 use Rattle.gno_typed.specs.declared.scope.NamedOf.{NamedOf}
@@ -14,10 +15,10 @@ use Rattle.gno_typing.specs.Names.{Meaning}
 
 -- what a name means, by the number of its type, and by the type
 pub data NamedStands (table : Table) : NamedOf TypeRef → NamedOf GoType → Type 0 where
-  variable : {r : TypeRef} {s : GoType} (id : VariableId) → Is table r s → NamedStands table (n.Variable id r) (n.Variable id s)
-  constant : {r : TypeRef} {s : GoType} (value : Constant) → Is table r s → NamedStands table (n.Constant r value) (n.Constant s value)
-  type_name : {r : TypeRef} {s : GoType} → Is table r s → NamedStands table (n.TypeName r) (n.TypeName s)
-  function : {r : TypeRef} {s : GoType} (code : CodeId) (crossing : Bool) → Is table r s → NamedStands table (n.Function code r crossing) (n.Function code s crossing)
+  variable : {r : TypeRef} {s : GoType} (id : VariableId) → TypeStands table r s → NamedStands table (n.Variable id r) (n.Variable id s)
+  constant : {r : TypeRef} {s : GoType} (value : Constant) → ConstantTypeStands table r s → NamedStands table (n.Constant r value) (n.Constant s value)
+  type_name : {r : TypeRef} {s : GoType} → TypeStands table r s → NamedStands table (n.TypeName r) (n.TypeName s)
+  function : {r : TypeRef} {s : GoType} (code : CodeId) (crossing : Bool) → TypeStands table r s → NamedStands table (n.Function code r crossing) (n.Function code s crossing)
   imported : (path : List ℕ) → NamedStands table (n.Package path) (n.Package path)
   builtin : (name : List ℕ) → NamedStands table (n.Builtin name) (n.Builtin name)
 

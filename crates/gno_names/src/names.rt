@@ -2,10 +2,10 @@
 ghost use Rattle.std.specs.Prelude.{◌≡◌, IfOk, List, Option, Some};
 ghost use Rattle.std.specs.Option.{option_copied};
 ghost use Rattle.gno_judging.specs.Answers.{Answers};
-ghost use Rattle.gno_judging.specs.Found.{OperandStands};
+ghost use Rattle.gno_judging.specs.Found.{ConstantTypeStands, OperandStands, TypeStands};
 ghost use Rattle.gno_judging.specs.Stands.{BothStand};
 ghost use Rattle.gno_names.specs.Scopes.{NamedStands, NamesStand};
-ghost use Rattle.gno_terms.specs.Tables.{Is, Table};
+ghost use Rattle.gno_terms.specs.Tables.{Table};
 ghost use Rattle.gno_terms.specs.Terms.{term_of};
 ghost use Rattle.gno_terms.specs.declared.term.GoType.{GoType};
 ghost use Rattle.gno_typed.specs.declared.scope.NamedOf.{NamedOf};
@@ -121,7 +121,7 @@ fn variable(
     id: &VariableId,
     of: TypeRef,
 ) -> Result<Option<OperandOf<TypeRef>>, AllocError>
-    ensures { (s : GoType) (f : Option Fault) → Is types.now of s → IfOk result (λ r. Answers (variable (is_realm (term_of s)) at id.now s) (OperandStands types.now) f f r) }
+    ensures { (s : GoType) (f : Option Fault) → TypeStands types.now of s → IfOk result (λ r. Answers (variable (is_realm (term_of s)) at id.now s) (OperandStands types.now) f f r) }
 {
     if is_realm(types, of) {
         Ok(Some(OperandOf::Realm { pos: at }))
@@ -146,7 +146,7 @@ fn constant(
     of: TypeRef,
     value: &Constant,
 ) -> Result<Option<OperandOf<TypeRef>>, AllocError>
-    ensures { (table : Table) (s : GoType) (f : Option Fault) → Is table of s → IfOk result (λ r. Answers (good (o.Value (v.Constant at s value.now))) (OperandStands table) f f r) }
+    ensures { (table : Table) (s : GoType) (f : Option Fault) → ConstantTypeStands table of s → IfOk result (λ r. Answers (good (o.Value (v.Constant at s value.now))) (OperandStands table) f f r) }
 {
     let value = constant_again(value)?;
     Ok(Some(OperandOf::Value(ValueOf::Constant { pos: at, of, value })))
@@ -159,7 +159,7 @@ fn type_name(
     at: Pos,
     of: TypeRef,
 ) -> Option<OperandOf<TypeRef>>
-    ensures { (s : GoType) → Is types.now of s → Answers (type_name (is_realm (term_of s)) at s) (OperandStands types.now) faults.old faults.new result }
+    ensures { (s : GoType) → TypeStands types.now of s → Answers (type_name (is_realm (term_of s)) at s) (OperandStands types.now) faults.old faults.new result }
 {
     if is_realm(types, of) {
         faults.note(82, at);
@@ -176,7 +176,7 @@ fn function(
     of: TypeRef,
     crossing: bool,
 ) -> Result<Option<OperandOf<TypeRef>>, AllocError>
-    ensures { (table : Table) (s : GoType) (f : Option Fault) → Is table of s → IfOk result (λ r. Answers (function crossing at code.now s) (OperandStands table) f f r) }
+    ensures { (table : Table) (s : GoType) (f : Option Fault) → TypeStands table of s → IfOk result (λ r. Answers (function crossing at code.now s) (OperandStands table) f f r) }
 {
     let code = code_again(code)?;
     if crossing {

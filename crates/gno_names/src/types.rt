@@ -2,10 +2,10 @@
 ghost use Rattle.std.specs.Prelude.{ℕ, IfOk, List, Option, Some};
 ghost use Rattle.std.specs.Option.{option_copied};
 ghost use Rattle.gno_judging.specs.Answers.{Answers};
-ghost use Rattle.gno_judging.specs.Found.{OperandStands};
+ghost use Rattle.gno_judging.specs.Found.{OperandStands, TypeStands};
 ghost use Rattle.gno_judging.specs.Stands.{BothStand};
 ghost use Rattle.gno_names.specs.Scopes.{ExportsOf, NamedStands, NamesStand};
-ghost use Rattle.gno_terms.specs.Tables.{Is, Table};
+ghost use Rattle.gno_terms.specs.Tables.{Table};
 ghost use Rattle.gno_terms.specs.declared.term.GoType.{GoType};
 ghost use Rattle.gno_tree_typing.specs.WrittenTypes.{as_type, qualified_type, type_in, type_named};
 ghost use Rattle.gno_typed.specs.declared.scope.NamedOf.{NamedOf};
@@ -32,7 +32,7 @@ pub fn type_named(
     names: &[ScopeName],
     name: &Name,
 ) -> Result<Option<TypeRef>, AllocError>
-    ensures { (ms : List Meaning) → NamesStand types.now names.now ms → IfOk result (λ r. Answers (type_named ms name.now) (Is types.now) faults.old faults.new r) }
+    ensures { (ms : List Meaning) → NamesStand types.now names.now ms → IfOk result (λ r. Answers (type_named ms name.now) (TypeStands types.now) faults.old faults.new r) }
 {
     match named(types, faults, names, name)? {
         Some(x) => Ok(as_type(faults, name.pos, &x)),
@@ -51,7 +51,7 @@ pub fn qualified_type(
     qualifier: &Name,
     name: &Name,
 ) -> Result<Option<TypeRef>, AllocError>
-    ensures { (packages : List ℕ → List Meaning) (ms : List Meaning) → NamesStand types.now names.now ms → ExportsOf types.now packages (meaning_of ms qualifier.now.text) exports.now → IfOk result (λ r. Answers (qualified_type packages ms qualifier.now name.now) (Is types.now) faults.old faults.new r) }
+    ensures { (packages : List ℕ → List Meaning) (ms : List Meaning) → NamesStand types.now names.now ms → ExportsOf types.now packages (meaning_of ms qualifier.now.text) exports.now → IfOk result (λ r. Answers (qualified_type packages ms qualifier.now name.now) (TypeStands types.now) faults.old faults.new r) }
 {
     if is_blank(qualifier.text.as_slice()) {
         faults.note(41, qualifier.pos);
@@ -78,7 +78,7 @@ fn type_in(
     is: Option<&Named>,
     name: &[u8],
 ) -> Result<Option<TypeRef>, AllocError>
-    ensures { (packages : List ℕ → List Meaning) (y : Option (NamedOf GoType)) → BothStand (NamedStands types.now) (option_copied is.entry) y → ExportsOf types.now packages y exports.now → IfOk result (λ r. Answers (type_in packages at y name.now) (Is types.now) faults.old faults.new r) }
+    ensures { (packages : List ℕ → List Meaning) (y : Option (NamedOf GoType)) → BothStand (NamedStands types.now) (option_copied is.entry) y → ExportsOf types.now packages y exports.now → IfOk result (λ r. Answers (type_in packages at y name.now) (TypeStands types.now) faults.old faults.new r) }
 {
     match is {
         Some(meaning) => type_meant(types, faults, exports, at, meaning, name),
@@ -97,7 +97,7 @@ fn type_meant(
     meaning: &Named,
     name: &[u8],
 ) -> Result<Option<TypeRef>, AllocError>
-    ensures { (packages : List ℕ → List Meaning) (y : NamedOf GoType) → NamedStands types.now meaning.now y → ExportsOf types.now packages (Some y) exports.now → IfOk result (λ r. Answers (type_in packages at (Some y) name.now) (Is types.now) faults.old faults.new r) }
+    ensures { (packages : List ℕ → List Meaning) (y : NamedOf GoType) → NamedStands types.now meaning.now y → ExportsOf types.now packages (Some y) exports.now → IfOk result (λ r. Answers (type_in packages at (Some y) name.now) (TypeStands types.now) faults.old faults.new r) }
 {
     match meaning {
         NamedOf::Package(_) => type_of_package(types, faults, exports, at, name),
@@ -115,7 +115,7 @@ fn type_of_package(
     at: Pos,
     name: &[u8],
 ) -> Result<Option<TypeRef>, AllocError>
-    ensures { (ms : List Meaning) → NamesStand types.now exports.now ms → IfOk result (λ r. Answers (After (exported ms at name.now) (as_type at)) (Is types.now) faults.old faults.new r) }
+    ensures { (ms : List Meaning) → NamesStand types.now exports.now ms → IfOk result (λ r. Answers (After (exported ms at name.now) (as_type at)) (TypeStands types.now) faults.old faults.new r) }
 {
     match exported(types, faults, exports, at, name)? {
         Some(x) => Ok(as_type(faults, at, &x)),
@@ -125,7 +125,7 @@ fn type_of_package(
 
 // A value is no type.
 fn as_type(faults: &mut Faults, at: Pos, x: &OperandOf<TypeRef>) -> Option<TypeRef>
-    ensures { (table : Table) (y : OperandOf GoType) → OperandStands table x.now y → Answers (as_type at y) (Is table) faults.old faults.new result }
+    ensures { (table : Table) (y : OperandOf GoType) → OperandStands table x.now y → Answers (as_type at y) (TypeStands table) faults.old faults.new result }
 {
     match x {
         OperandOf::Type { of, .. } => Some(*of),

@@ -92,7 +92,7 @@ module _ (table : Table) (place : Pos) where
 
   pub struct_type_form : (fs : List (FieldOf GoType)) → HasForm (struct_type table place fs)
   unfolding struct_type
-  struct_type_form fs = small_form _
+  struct_type_form fs = wants_form _ 78 place _ (small_form _)
 
   pub embedded_field_form : (path : List ℕ) (star : Bool) (name : List ℕ) (s : GoType) → HasForm (embedded_field table path place star name s)
   unfolding embedded_field
@@ -108,7 +108,7 @@ module _ (table : Table) (place : Pos) where
 
 pub interface_method_form : (path : List ℕ) (name : Name) (s : GoType) → HasForm (interface_method path name s)
 unfolding interface_method
-interface_method_form path name s = test_form (is_blank name.text) _ _ (bad_form 80 name.pos) (good_form _)
+interface_method_form path name s = test_form (is_blank name.text) _ _ (bad_form 80 name.pos) (wants_form _ 78 name.pos _ (good_form _))
 
 -- ---- literals
 

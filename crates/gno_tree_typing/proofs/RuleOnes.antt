@@ -107,7 +107,7 @@ module _ (table : Table) (place : Pos) where
 
   pub struct_type_one : (fs : List (FieldOf GoType)) → HasOne (struct_type table place fs)
   unfolding struct_type
-  struct_type_one fs = small_one _
+  struct_type_one fs = wants_one _ 78 place _ (small_one _)
 
   pub embedded_field_one : (path : List ℕ) (star : Bool) (name : List ℕ) (s : GoType) → HasOne (embedded_field table path place star name s)
   unfolding embedded_field
@@ -123,7 +123,7 @@ with_embedded_one place before ms = wants_one _ 64 place _ (good_one _)
 
 pub interface_method_one : (path : List ℕ) (name : Name) (s : GoType) → HasOne (interface_method path name s)
 unfolding interface_method
-interface_method_one path name s = test_one (is_blank name.text) _ _ (bad_one 80 name.pos) (good_one _)
+interface_method_one path name s = test_one (is_blank name.text) _ _ (bad_one 80 name.pos) (wants_one _ 78 name.pos _ (good_one _))
 
 -- ---- literals
 

@@ -189,9 +189,11 @@ abbrev pub names_of_all : List Parameter → List Name
 names_of_all [] = []
 names_of_all (p ∷ ps) = p.names ++ names_of_all ps
 
+-- the last one is variadic
 abbrev pub is_variadic : List Parameter → Bool
 is_variadic [] = false
-is_variadic (p ∷ ps) = p.variadic || is_variadic ps
+is_variadic (p ∷ []) = p.variadic
+is_variadic (p ∷ q ∷ ps) = is_variadic (q ∷ ps)
 
 abbrev pub function_type : Bool → List GoType → List GoType → GoType
 function_type variadic params results = type_of (t.Function params variadic results)

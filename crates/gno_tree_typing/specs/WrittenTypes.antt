@@ -3,6 +3,7 @@ use Rattle.std.specs.Prelude.{ℕ, ◌≡◌, ◌<◌, ◌≤◌, ◌^◌, ◌++
 use Rattle.std.specs.Str.{bytes_eq}
 use Rattle.gno_constants.specs.declared.constant.Constant.{Constant}
 use Rattle.gno_constants.specs.declared.constant.Constant.TheVariants as c
+use Rattle.gno_scan.specs.Names.{IsName}
 use Rattle.gno_scan.specs.declared.token.Pos.{Pos}
 use Rattle.gno_terms.specs.declared.term.FieldOf.{FieldOf}
 use Rattle.gno_terms.specs.declared.term.GoType.{GoType}
@@ -126,8 +127,12 @@ starred false s = s
 unfoldable pub embedded_field : Table → List ℕ → Pos → Bool → List ℕ → GoType → Verdict (FieldOf GoType) → Type 0
 embedded_field table path place star name s = wants (MayBeEmbedded table star s) 78 place (good (field_of_struct path name true (starred star s)))
 
+-- Names are identifiers. A tree that was read from a text has no others.
+abbrev pub HasName : FieldOf GoType → Type 0
+HasName f = IsName f.name
+
 unfoldable pub struct_type : Table → Pos → List (FieldOf GoType) → Verdict GoType → Type 0
-struct_type table place fs = small table place (type_of (t.Struct fs))
+struct_type table place fs = wants (Each HasName fs) 78 place (small table place (type_of (t.Struct fs)))
 
 -- ---- interfaces
 
@@ -152,7 +157,7 @@ method_of_interface path name s = record { name = name; «package» = package_of
 
 -- a method that is named: not `_`
 unfoldable pub interface_method : List ℕ → Name → GoType → Verdict (MethodOf GoType) → Type 0
-interface_method path name s = by_test (is_blank name.text) (bad 80 name.pos) (good (method_of_interface path name.text s))
+interface_method path name s = by_test (is_blank name.text) (bad 80 name.pos) (wants (IsName name.text) 78 name.pos (good (method_of_interface path name.text s)))
 
 -- the methods of an interface that is embedded
 pub record IsInterfaceOf (table : Table) (s : GoType) (methods : List (MethodOf GoType)) : Type 0 where

@@ -11,25 +11,26 @@ use Rattle.gno_terms.specs.declared.term.GoType.{GoType}
 use Rattle.gno_terms.specs.declared.term.TermOf.{TermOf}
 use Rattle.gno_terms.specs.declared.term.TermOf.TheVariants as t
 use Rattle.gno_terms.specs.declared.term.TypeRef.{TypeRef}
+use Rattle.gno_type_classes.specs.Unnumbered.{unnumbered}
 use Rattle.gno_type_classes.specs.Rows.{IsUnder}
 use Rattle.gno_typing.specs.Classes.{IsOf, IsRepresentable, IsValueBy}
 
-pub is_of : (table : Table) (s : GoType) (x : TermOf TypeRef) → IsUnder table s x → (class : TermOf GoType → Bool) (b : Bool) → b ≡ class (term_with (type_at table.types) x) → IsTrue b ↔ IsOf class table s
+pub is_of : (table : Table) (s : GoType) (x : TermOf TypeRef) → IsUnder table s x → (class : TermOf GoType → Bool) (b : Bool) → b ≡ class (term_with (type_at table.types) x) → IsTrue b ↔ IsOf class (unnumbered table) s
 is_of table s x under class b e = (
   λ y. record { underlying = under.known.0; by = under.known.1; holds = ap class (under.is under.known.0 under.known.1) ∙ sym e ∙ y },
   λ h. e ∙ sym (ap class (under.is h.underlying h.by)) ∙ h.holds,
 )
 
-pub of_none : (table : Table) (s : GoType) (class : TermOf GoType → Bool) → (IsKnown table s → ⊥) → IsTrue false ↔ IsOf class table s
+pub of_none : (table : Table) (s : GoType) (class : TermOf GoType → Bool) → (IsKnown (unnumbered table) s → ⊥) → IsTrue false ↔ IsOf class (unnumbered table) s
 of_none table s class h = (λ e. absurd (search (rules, e)), λ o. absurd (h (o.underlying, o.by)))
 
-pub representable : (table : Table) (s : GoType) (x : TermOf TypeRef) → IsUnder table s x → (c : Constant) (b : Bool) → (IsTrue b ↔ IsValueBy c (term_with (type_at table.types) x)) → IsTrue b ↔ IsRepresentable table c s
+pub representable : (table : Table) (s : GoType) (x : TermOf TypeRef) → IsUnder table s x → (c : Constant) (b : Bool) → (IsTrue b ↔ IsValueBy c (term_with (type_at table.types) x)) → IsTrue b ↔ IsRepresentable (unnumbered table) c s
 representable table s x under c b h = (
   λ y. record { underlying = under.known.0; by = under.known.1; value = subst (IsValueBy c) (sym (under.is under.known.0 under.known.1)) (h.0 y) },
   λ r. h.1 (subst (IsValueBy c) (under.is r.underlying r.by) r.value),
 )
 
-pub not_representable : (table : Table) (s : GoType) (c : Constant) → (IsKnown table s → ⊥) → IsTrue false ↔ IsRepresentable table c s
+pub not_representable : (table : Table) (s : GoType) (c : Constant) → (IsKnown (unnumbered table) s → ⊥) → IsTrue false ↔ IsRepresentable (unnumbered table) c s
 not_representable table s c h = (λ e. absurd (search (rules, e)), λ r. absurd (h (r.underlying, r.by)))
 
 pub value_by : (c : Constant) (f : TypeRef → GoType) (x : TermOf TypeRef) (kind : Kind) → x ≡ t.Basic kind → (b : Bool) → (IsTrue b ↔ IsValue c kind) → IsTrue b ↔ IsValueBy c (term_with f x)

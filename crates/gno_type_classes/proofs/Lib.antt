@@ -1,4 +1,5 @@
 pub mod ByClass
+pub mod SameDefinitions
 pub mod Converting
 pub mod FormsOfRows
 pub mod Found
@@ -7,3 +8,4 @@ pub mod Indexed
 pub mod Known
 pub mod NameOfTypes
 pub mod OtherParts
+pub mod TypedParts

@@ -6,6 +6,7 @@ ghost use Rattle.gno_terms.specs.Lawful.{is_untyped};
 ghost use Rattle.gno_terms.specs.Tables.{Is};
 ghost use Rattle.gno_terms.specs.Terms.{term_of};
 ghost use Rattle.gno_terms.specs.declared.term.GoType.{GoType};
+ghost use Rattle.gno_type_classes.specs.Unnumbered.{unnumbered};
 ghost use Rattle.gno_typing.specs.Classes.{IsOf, is_boolean, is_integer, is_ordered, is_text};
 ghost use Rattle.gno_typing.specs.Conversions.{is_basic};
 
@@ -17,7 +18,7 @@ use gno_type_table::TypeTable;
 
 /// Whether the underlying type has integers. Go specification, "Numeric types".
 pub fn is_integer(types: &TypeTable, t: TypeRef) -> bool
-    ensures { (s : GoType) → Is types.now t s → IsTrue result ↔ IsOf is_integer types.now s }
+    ensures { (s : GoType) → Is types.now t s → IsTrue result ↔ IsOf is_integer (unnumbered types.now) s }
 {
     match term_under(types, t) {
         Some(row) => forms::is_integer(row),
@@ -27,7 +28,7 @@ pub fn is_integer(types: &TypeTable, t: TypeRef) -> bool
 
 /// Whether the underlying type has strings. Go specification, "String types".
 pub fn is_text(types: &TypeTable, t: TypeRef) -> bool
-    ensures { (s : GoType) → Is types.now t s → IsTrue result ↔ IsOf is_text types.now s }
+    ensures { (s : GoType) → Is types.now t s → IsTrue result ↔ IsOf is_text (unnumbered types.now) s }
 {
     match term_under(types, t) {
         Some(row) => forms::is_text(row),
@@ -37,7 +38,7 @@ pub fn is_text(types: &TypeTable, t: TypeRef) -> bool
 
 /// Whether the underlying type has truth values. Go specification, "Boolean types".
 pub fn is_boolean(types: &TypeTable, t: TypeRef) -> bool
-    ensures { (s : GoType) → Is types.now t s → IsTrue result ↔ IsOf is_boolean types.now s }
+    ensures { (s : GoType) → Is types.now t s → IsTrue result ↔ IsOf is_boolean (unnumbered types.now) s }
 {
     match term_under(types, t) {
         Some(row) => forms::is_boolean(row),
@@ -47,7 +48,7 @@ pub fn is_boolean(types: &TypeTable, t: TypeRef) -> bool
 
 /// Whether values of the underlying type are ordered. Go specification, "Comparison operators".
 pub fn is_ordered(types: &TypeTable, t: TypeRef) -> bool
-    ensures { (s : GoType) → Is types.now t s → IsTrue result ↔ IsOf is_ordered types.now s }
+    ensures { (s : GoType) → Is types.now t s → IsTrue result ↔ IsOf is_ordered (unnumbered types.now) s }
 {
     match term_under(types, t) {
         Some(row) => forms::is_ordered(row),
@@ -57,7 +58,7 @@ pub fn is_ordered(types: &TypeTable, t: TypeRef) -> bool
 
 /// Whether the underlying type is a basic one.
 pub fn is_basic(types: &TypeTable, t: TypeRef) -> bool
-    ensures { (s : GoType) → Is types.now t s → IsTrue result ↔ IsOf is_basic types.now s }
+    ensures { (s : GoType) → Is types.now t s → IsTrue result ↔ IsOf is_basic (unnumbered types.now) s }
 {
     match term_under(types, t) {
         Some(row) => forms::is_basic(row),
@@ -67,7 +68,7 @@ pub fn is_basic(types: &TypeTable, t: TypeRef) -> bool
 
 /// Whether the underlying type is an interface. Go specification, "Interface types".
 pub fn is_interface(types: &TypeTable, t: TypeRef) -> bool
-    ensures { (s : GoType) → Is types.now t s → IsTrue result ↔ IsOf is_interface types.now s }
+    ensures { (s : GoType) → Is types.now t s → IsTrue result ↔ IsOf is_interface (unnumbered types.now) s }
 {
     match term_under(types, t) {
         Some(row) => forms::is_interface(row),
@@ -77,7 +78,7 @@ pub fn is_interface(types: &TypeTable, t: TypeRef) -> bool
 
 /// Whether `nil` is a value of the underlying type.
 pub fn has_nil(types: &TypeTable, t: TypeRef) -> bool
-    ensures { (s : GoType) → Is types.now t s → IsTrue result ↔ IsOf has_nil types.now s }
+    ensures { (s : GoType) → Is types.now t s → IsTrue result ↔ IsOf has_nil (unnumbered types.now) s }
 {
     match term_under(types, t) {
         Some(row) => forms::has_nil(row),

@@ -4,6 +4,7 @@ ghost use Rattle.gno_terms.specs.Tables.{Is};
 ghost use Rattle.gno_terms.specs.Terms.{term_with};
 ghost use Rattle.gno_terms.specs.declared.term.GoType.{GoType};
 ghost use Rattle.gno_terms.specs.declared.term.TypeRef.{TypeRef};
+ghost use Rattle.gno_type_classes.specs.Unnumbered.{unnumbered};
 ghost use Rattle.gno_typing.specs.Classes.{IsOf, IsRepresentable, IsValueBy, MayBe, fits, fits_kind};
 
 use crate::classes::is_untyped;
@@ -36,7 +37,7 @@ fn fits_row(constant: &Constant, row: &Term) -> bool
 
 /// Whether a constant is of the class of a type: a truth value, a string or a whole number.
 pub fn fits(types: &TypeTable, constant: &Constant, t: TypeRef) -> bool
-    ensures { (s : GoType) → Is types.now t s → IsTrue result ↔ IsOf (fits constant.now) types.now s }
+    ensures { (s : GoType) → Is types.now t s → IsTrue result ↔ IsOf (fits constant.now) (unnumbered types.now) s }
 {
     match term_under(types, t) {
         Some(row) => fits_row(constant, row),
@@ -55,7 +56,7 @@ fn is_value_by(constant: &Constant, row: &Term) -> bool
 
 /// Whether a constant is a value of a type. Go specification, "Representability".
 pub fn is_representable(types: &TypeTable, constant: &Constant, t: TypeRef) -> bool
-    ensures { (s : GoType) → Is types.now t s → IsTrue result ↔ IsRepresentable types.now constant.now s }
+    ensures { (s : GoType) → Is types.now t s → IsTrue result ↔ IsRepresentable (unnumbered types.now) constant.now s }
 {
     match term_under(types, t) {
         Some(row) => is_value_by(constant, row),
@@ -65,7 +66,7 @@ pub fn is_representable(types: &TypeTable, constant: &Constant, t: TypeRef) -> b
 
 /// Whether a type has the constant: an untyped type has any.
 pub fn may_be(types: &TypeTable, constant: &Constant, t: TypeRef) -> bool
-    ensures { (s : GoType) → Is types.now t s → IsTrue result ↔ MayBe types.now constant.now s }
+    ensures { (s : GoType) → Is types.now t s → IsTrue result ↔ MayBe (unnumbered types.now) constant.now s }
 {
     is_untyped(types, t) || is_representable(types, constant, t)
 }

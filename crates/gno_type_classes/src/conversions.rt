@@ -9,6 +9,7 @@ ghost use Rattle.gno_terms.specs.declared.term.GoType.{GoType};
 ghost use Rattle.gno_terms.specs.declared.term.TermOf.TheVariants as t;
 ghost use Rattle.gno_type_classes.specs.Converting.{AreApart};
 ghost use Rattle.gno_typed.specs.declared.expr.ConversionKind.{ConversionKind};
+ghost use Rattle.gno_type_classes.specs.Unnumbered.{unnumbered};
 ghost use Rattle.gno_typing.specs.Classes.{Has, is_integer};
 ghost use Rattle.gno_typing.specs.Conversions.{Converts, ConvertsBy};
 
@@ -24,8 +25,8 @@ use gno_typed::ConversionKind;
 
 /// How a value that is no constant is converted from a type to another; `None` where it is not. Takes no memory.
 pub fn converts(types: &TypeTable, from: TypeRef, to: TypeRef) -> Option<ConversionKind>
-    ensures some { IfSome result (λ how. (s u : GoType) → Is types.now from s → Is types.now to u → ConvertsBy types.now s u how) }
-    ensures none { IsNone result → (s u : GoType) (how : ConversionKind) → Is types.now from s → Is types.now to u → ConvertsBy types.now s u how → ⊥ }
+    ensures some { IfSome result (λ how. (s u : GoType) → Is types.now from s → Is types.now to u → ConvertsBy (unnumbered types.now) s u how) }
+    ensures none { IsNone result → (s u : GoType) (how : ConversionKind) → Is types.now from s → Is types.now to u → ConvertsBy (unnumbered types.now) s u how → ⊥ }
 {
     types.have_one_definition();
     match underlying(types, from) {
@@ -47,8 +48,8 @@ fn by_underlying(
 ) -> Option<ConversionKind>
     requires a { Below (length types.now.types) a }
     requires b { Below (length types.now.types) b }
-    ensures some { IfSome result (λ how. (s u v w : GoType) → Is types.now from s → Is types.now to u → Is types.now a v → Is types.now b w → Converts types.now s u v w how) }
-    ensures none { IsNone result → (s u v w : GoType) (how : ConversionKind) → Is types.now from s → Is types.now to u → Is types.now a v → Is types.now b w → Underlying types.now u w → Converts types.now s u v w how → ⊥ }
+    ensures some { IfSome result (λ how. (s u v w : GoType) → Is types.now from s → Is types.now to u → Is types.now a v → Is types.now b w → Converts (unnumbered types.now) s u v w how) }
+    ensures none { IsNone result → (s u v w : GoType) (how : ConversionKind) → Is types.now from s → Is types.now to u → Is types.now a v → Is types.now b w → Underlying (unnumbered types.now) u w → Converts (unnumbered types.now) s u v w how → ⊥ }
 {
     let x = types.term(a);
     let y = types.term(b);
@@ -66,8 +67,8 @@ fn by_underlying(
 
 // To an interface type.
 fn to_interface(types: &TypeTable, from: TypeRef, to: TypeRef, x: &Term) -> Option<ConversionKind>
-    ensures some { IfSome result (λ how. (s u v w : GoType) → Is types.now from s → Is types.now to u → term_of v ≡ term_with (type_at types.now.types) x.now → is_interface (term_of w) ≡ true → Converts types.now s u v w how) }
-    ensures none { IsNone result → (s u : GoType) → Is types.now from s → Is types.now to u → Has types.now s u → ⊥ }
+    ensures some { IfSome result (λ how. (s u v w : GoType) → Is types.now from s → Is types.now to u → term_of v ≡ term_with (type_at types.now.types) x.now → is_interface (term_of w) ≡ true → Converts (unnumbered types.now) s u v w how) }
+    ensures none { IsNone result → (s u : GoType) → Is types.now from s → Is types.now to u → Has (unnumbered types.now) s u → ⊥ }
 {
     if !has(types, from, to) {
         return None;
@@ -83,8 +84,8 @@ fn to_interface(types: &TypeTable, from: TypeRef, to: TypeRef, x: &Term) -> Opti
 fn by_forms(types: &TypeTable, x: &Term, y: &Term) -> Option<ConversionKind>
     requires x { PartsBelow (length types.now.types) x.now }
     requires y { PartsBelow (length types.now.types) y.now }
-    ensures some { IfSome result (λ how. (s u v w : GoType) → term_of v ≡ term_with (type_at types.now.types) x.now → term_of w ≡ term_with (type_at types.now.types) y.now → (Identical v w → ⊥) → Converts types.now s u v w how) }
-    ensures none { IsNone result → (v w : GoType) → term_of v ≡ term_with (type_at types.now.types) x.now → term_of w ≡ term_with (type_at types.now.types) y.now → AreApart types.now v w }
+    ensures some { IfSome result (λ how. (s u v w : GoType) → term_of v ≡ term_with (type_at types.now.types) x.now → term_of w ≡ term_with (type_at types.now.types) y.now → (Identical v w → ⊥) → Converts (unnumbered types.now) s u v w how) }
+    ensures none { IsNone result → (v w : GoType) → term_of v ≡ term_with (type_at types.now.types) x.now → term_of w ≡ term_with (type_at types.now.types) y.now → AreApart (unnumbered types.now) v w }
 {
     if forms::is_integer(x) {
         return from_integer(types, x, y);
@@ -100,8 +101,8 @@ fn by_forms(types: &TypeTable, x: &Term, y: &Term) -> Option<ConversionKind>
 
 fn from_integer(types: &TypeTable, x: &Term, y: &Term) -> Option<ConversionKind>
     requires integer { is_integer x.now ≡ true }
-    ensures some { IfSome result (λ how. (s u v w : GoType) → term_of v ≡ term_with (type_at types.now.types) x.now → term_of w ≡ term_with (type_at types.now.types) y.now → (Identical v w → ⊥) → Converts types.now s u v w how) }
-    ensures none { IsNone result → (v w : GoType) → term_of v ≡ term_with (type_at types.now.types) x.now → term_of w ≡ term_with (type_at types.now.types) y.now → AreApart types.now v w }
+    ensures some { IfSome result (λ how. (s u v w : GoType) → term_of v ≡ term_with (type_at types.now.types) x.now → term_of w ≡ term_with (type_at types.now.types) y.now → (Identical v w → ⊥) → Converts (unnumbered types.now) s u v w how) }
+    ensures none { IsNone result → (v w : GoType) → term_of v ≡ term_with (type_at types.now.types) x.now → term_of w ≡ term_with (type_at types.now.types) y.now → AreApart (unnumbered types.now) v w }
 {
     if forms::is_integer(y) {
         return Some(ConversionKind::Integer);
@@ -117,8 +118,8 @@ fn from_elements(types: &TypeTable, x: &Term, y: &Term) -> Option<ConversionKind
     requires x { PartsBelow (length types.now.types) x.now }
     requires no_integer { is_integer x.now ≡ false }
     requires text { term_with (type_at types.now.types) y.now ≡ t.Basic k.Text }
-    ensures some { IfSome result (λ how. (s u v w : GoType) → term_of v ≡ term_with (type_at types.now.types) x.now → term_of w ≡ term_with (type_at types.now.types) y.now → Converts types.now s u v w how) }
-    ensures none { IsNone result → (v w : GoType) → term_of v ≡ term_with (type_at types.now.types) x.now → term_of w ≡ term_with (type_at types.now.types) y.now → AreApart types.now v w }
+    ensures some { IfSome result (λ how. (s u v w : GoType) → term_of v ≡ term_with (type_at types.now.types) x.now → term_of w ≡ term_with (type_at types.now.types) y.now → Converts (unnumbered types.now) s u v w how) }
+    ensures none { IsNone result → (v w : GoType) → term_of v ≡ term_with (type_at types.now.types) x.now → term_of w ≡ term_with (type_at types.now.types) y.now → AreApart (unnumbered types.now) v w }
 {
     if has_elements(types, x, Kind::Uint8) {
         return Some(ConversionKind::FromBytes);
@@ -134,8 +135,8 @@ fn to_elements(types: &TypeTable, x: &Term, y: &Term) -> Option<ConversionKind>
     requires y { PartsBelow (length types.now.types) y.now }
     requires text { term_with (type_at types.now.types) x.now ≡ t.Basic k.Text }
     requires no_text { term_with (type_at types.now.types) y.now ≡ t.Basic k.Text → ⊥ }
-    ensures some { IfSome result (λ how. (s u v w : GoType) → term_of v ≡ term_with (type_at types.now.types) x.now → term_of w ≡ term_with (type_at types.now.types) y.now → Converts types.now s u v w how) }
-    ensures none { IsNone result → (v w : GoType) → term_of v ≡ term_with (type_at types.now.types) x.now → term_of w ≡ term_with (type_at types.now.types) y.now → AreApart types.now v w }
+    ensures some { IfSome result (λ how. (s u v w : GoType) → term_of v ≡ term_with (type_at types.now.types) x.now → term_of w ≡ term_with (type_at types.now.types) y.now → Converts (unnumbered types.now) s u v w how) }
+    ensures none { IsNone result → (v w : GoType) → term_of v ≡ term_with (type_at types.now.types) x.now → term_of w ≡ term_with (type_at types.now.types) y.now → AreApart (unnumbered types.now) v w }
 {
     if has_elements(types, y, Kind::Uint8) {
         return Some(ConversionKind::Bytes);

@@ -1,8 +1,10 @@
 // The types whose fields and methods a selector looks at. Go specification, "Selectors".
 ghost use Rattle.std.specs.Prelude.{◌≡◌, ◌↔◌, IfSome, IsNone, IsTrue, false, not};
+ghost use Rattle.gno_terms.specs.Lawful.{IsTyped};
 ghost use Rattle.gno_terms.specs.Tables.{Is, Underlying};
 ghost use Rattle.gno_terms.specs.Terms.{term_of};
 ghost use Rattle.gno_terms.specs.declared.term.GoType.{GoType};
+ghost use Rattle.gno_type_classes.specs.Unnumbered.{unnumbered};
 ghost use Rattle.gno_typing.specs.Classes.{IsOf};
 ghost use Rattle.gno_typing.specs.Selectors as selectors;
 ghost use Rattle.gno_typing.specs.Selectors.{Follows, HasHolder, is_pointer_or_interface, is_pointer_term};
@@ -25,8 +27,8 @@ pub struct Holder {
 /// The type whose fields and methods a selector looks at: what a pointer points at, or the type itself. `None` for a pointer to a
 /// pointer, to an interface, or to a type that has no underlying type. Takes constant time.
 pub fn holder_of(types: &TypeTable, t: TypeRef) -> Option<Holder>
-    ensures some { IfSome result (λ it. (s : GoType) → Is types.now t s → (of : GoType) × Is types.now it.of of × HasHolder types.now s (record { of = of; pointer = it.pointer; fields_alone = it.fields_alone })) }
-    ensures none { IsNone result → (s : GoType) (h : selectors.Holder) → Is types.now t s → HasHolder types.now s h → ⊥ }
+    ensures some { IfSome result (λ it. (s : GoType) → Is types.now t s → (of : GoType) × Is types.now it.of of × HasHolder (unnumbered types.now) s (record { of = of; pointer = it.pointer; fields_alone = it.fields_alone })) }
+    ensures none { IsNone result → (s : GoType) (h : selectors.Holder) → Is types.now t s → HasHolder (unnumbered types.now) s h → ⊥ }
 {
     types.have_one_definition();
     if !types.contains(t) {
@@ -44,8 +46,9 @@ pub fn holder_of(types: &TypeTable, t: TypeRef) -> Option<Holder>
 
 /// What a pointer points at, where the underlying type is a pointer.
 pub fn follows(types: &TypeTable, t: TypeRef) -> Option<TypeRef>
-    ensures some { IfSome result (λ it. (s : GoType) → Is types.now t s → (u : GoType) × Follows types.now s u × Is types.now it u) }
-    ensures none { IsNone result → (s u : GoType) → Is types.now t s → Follows types.now s u → ⊥ }
+    ensures some { IfSome result (λ it. (s : GoType) → Is types.now t s → (u : GoType) × Follows (unnumbered types.now) s u × Is types.now it u) }
+    ensures typed { IfSome result (λ it. (u : GoType) → Is types.now it u → IsTyped u) }
+    ensures none { IsNone result → (s u : GoType) → Is types.now t s → Follows (unnumbered types.now) s u → ⊥ }
 {
     match term_under(types, t) {
         Some(row) => pointed(row),
@@ -55,8 +58,8 @@ pub fn follows(types: &TypeTable, t: TypeRef) -> Option<TypeRef>
 
 // What a pointer points at, where that is no pointer and no interface.
 fn holder_at(types: &TypeTable, t: TypeRef, of: TypeRef) -> Option<Holder>
-    ensures some { IfSome result (λ it. (s u : GoType) → Is types.now t s → Follows types.now s u → Is types.now of u → Is types.now it.of u × HasHolder types.now s (record { of = u; pointer = it.pointer; fields_alone = it.fields_alone })) }
-    ensures none { IsNone result → (u b : GoType) → Is types.now of u → Underlying types.now u b → is_pointer_or_interface (term_of b) ≡ false → ⊥ }
+    ensures some { IfSome result (λ it. (s u : GoType) → Is types.now t s → Follows (unnumbered types.now) s u → Is types.now of u → Is types.now it.of u × HasHolder (unnumbered types.now) s (record { of = u; pointer = it.pointer; fields_alone = it.fields_alone })) }
+    ensures none { IsNone result → (u b : GoType) → Is types.now of u → Underlying (unnumbered types.now) u b → is_pointer_or_interface (term_of b) ≡ false → ⊥ }
 {
     if has_members(types, of) {
         Some(Holder {
@@ -70,7 +73,7 @@ fn holder_at(types: &TypeTable, t: TypeRef, of: TypeRef) -> Option<Holder>
 }
 
 fn has_members(types: &TypeTable, t: TypeRef) -> bool
-    ensures { (s : GoType) → Is types.now t s → IsTrue result ↔ IsOf (λ x. not (is_pointer_or_interface x)) types.now s }
+    ensures { (s : GoType) → Is types.now t s → IsTrue result ↔ IsOf (λ x. not (is_pointer_or_interface x)) (unnumbered types.now) s }
 {
     match term_under(types, t) {
         Some(row) => forms::has_members(row),

@@ -5,6 +5,7 @@ ghost use Rattle.gno_terms.specs.Terms.{term_of, term_with};
 ghost use Rattle.gno_terms.specs.declared.term.GoType.{GoType};
 ghost use Rattle.gno_terms.specs.declared.term.TermOf.TheVariants as form;
 ghost use Rattle.gno_terms.specs.declared.term.TypeRef.{TypeRef};
+ghost use Rattle.gno_type_classes.specs.Unnumbered.{unnumbered};
 ghost use Rattle.gno_typing.specs.Conversions.{ElementsAre};
 
 use crate::parts::sliced;
@@ -25,7 +26,7 @@ pub(crate) fn is_of_kind(row: &Term, kind: Kind) -> bool
 
 // Whether the underlying type is the basic type of a kind.
 fn has_kind(types: &TypeTable, t: TypeRef, kind: Kind) -> bool
-    ensures { (s : GoType) → Is types.now t s → IsTrue result ↔ ((u : GoType) × Underlying types.now s u × (term_of u ≡ form.Basic kind)) }
+    ensures { (s : GoType) → Is types.now t s → IsTrue result ↔ ((u : GoType) × Underlying (unnumbered types.now) s u × (term_of u ≡ form.Basic kind)) }
 {
     match term_under(types, t) {
         Some(row) => is_of_kind(row, kind),
@@ -36,7 +37,7 @@ fn has_kind(types: &TypeTable, t: TypeRef, kind: Kind) -> bool
 /// Whether a row is a slice whose elements have the basic type of a kind as their underlying type.
 pub(crate) fn has_elements(types: &TypeTable, row: &Term, kind: Kind) -> bool
     requires { PartsBelow (length types.now.types) row.now }
-    ensures { (u : GoType) → term_of u ≡ term_with (type_at types.now.types) row.now → IsTrue result ↔ ElementsAre kind types.now u }
+    ensures { (u : GoType) → term_of u ≡ term_with (type_at types.now.types) row.now → IsTrue result ↔ ElementsAre kind (unnumbered types.now) u }
 {
     match sliced(row) {
         Some(of) => has_kind(types, of, kind),

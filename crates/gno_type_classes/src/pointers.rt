@@ -4,6 +4,7 @@ ghost use Rattle.gno_terms.specs.Tables.{Is, Underlying};
 ghost use Rattle.gno_terms.specs.Terms.{term_of};
 ghost use Rattle.gno_terms.specs.declared.term.GoType.{GoType};
 ghost use Rattle.gno_terms.specs.declared.term.TermOf.TheVariants as form;
+ghost use Rattle.gno_type_classes.specs.Unnumbered.{unnumbered};
 ghost use Rattle.gno_typing.specs.Conversions.{ArePointers};
 
 use crate::parts::pointed;
@@ -13,7 +14,7 @@ use gno_type_table::TypeTable;
 
 /// Whether both types are pointers without a name, to types whose underlying types are identical. Go specification, "Conversions".
 pub(crate) fn are_pointers(types: &TypeTable, from: TypeRef, to: TypeRef) -> bool
-    ensures { (s u : GoType) → Is types.now from s → Is types.now to u → IsTrue result ↔ ArePointers types.now s u }
+    ensures { (s u : GoType) → Is types.now from s → Is types.now to u → IsTrue result ↔ ArePointers (unnumbered types.now) s u }
 {
     types.have_one_definition();
     match under_pointer(types, from) {
@@ -27,8 +28,8 @@ pub(crate) fn are_pointers(types: &TypeTable, from: TypeRef, to: TypeRef) -> boo
 
 // The underlying type of what a pointer without a name points at.
 fn under_pointer(types: &TypeTable, t: TypeRef) -> Option<TypeRef>
-    ensures some { IfSome result (λ it. (s : GoType) → Is types.now t s → (a : GoType) × (b : GoType) × (term_of s ≡ form.Pointer a) × Underlying types.now a b × Is types.now it b) }
-    ensures none { IsNone result → (s a b : GoType) → Is types.now t s → term_of s ≡ form.Pointer a → Underlying types.now a b → ⊥ }
+    ensures some { IfSome result (λ it. (s : GoType) → Is types.now t s → (a : GoType) × (b : GoType) × (term_of s ≡ form.Pointer a) × Underlying (unnumbered types.now) a b × Is types.now it b) }
+    ensures none { IsNone result → (s a b : GoType) → Is types.now t s → term_of s ≡ form.Pointer a → Underlying (unnumbered types.now) a b → ⊥ }
 {
     if !types.contains(t) {
         return None;

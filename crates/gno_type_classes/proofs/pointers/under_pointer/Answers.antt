@@ -3,6 +3,7 @@ use Rattle.gno_method_sets.proofs.Rows.{some_map, term_is, there}
 use Rattle.gno_terms.specs.Tables.{PartsBelow, Underlying, type_at}
 use Rattle.gno_terms.specs.Terms.{term_with}
 use Rattle.gno_terms.specs.declared.term.GoType.{GoType}
+use Rattle.gno_type_classes.specs.Unnumbered.{unnumbered}
 use Rattle.gno_type_classes.proofs.Known.{not_there}
 use Rattle.gno_type_classes.proofs.OtherParts.{no_pointer, one_pointer}
 use Rattle.gno_type_classes.proofs.pointers.under_pointer.Goals as goal
@@ -23,7 +24,7 @@ returns-in-Some-clause-none c e s a b is pointer by =
     let below = (subst (PartsBelow (length c.args.types.now.types)) c.in-Some.ensures.some c.term.ensures.parts).0 in
     let of = type_at c.args.types.now.types c.in-Some.of in
     let row = term_is c.args.types.now c.args.t s c.term.result.now is c.term.ensures.is ∙ ap (term_with (type_at c.args.types.now.types)) c.in-Some.ensures.some in
-    c.underlying.ensures.none e of (there c.args.types.now c.in-Some.of below) (b, subst (λ (x : GoType). Underlying c.args.types.now x b) (sym (one_pointer of a (sym row ∙ pointer))) by)
+    c.underlying.ensures.none e of (there c.args.types.now c.in-Some.of below) (b, subst (λ (x : GoType). Underlying (unnumbered c.args.types.now) x b) (sym (one_pointer of a (sym row ∙ pointer))) by)
 
 pub returns-in-None-clause-none : goal.returns-in-None-clause-none
 returns-in-None-clause-none c _ s a b is pointer by = no_pointer (type_at c.args.types.now.types) c.term.result.now (c.in-None.ensures.none refl) a (sym (term_is c.args.types.now c.args.t s c.term.result.now is c.term.ensures.is) ∙ pointer)

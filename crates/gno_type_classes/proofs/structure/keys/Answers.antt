@@ -1,6 +1,7 @@
 use Rattle.std.proofs.Common.{refl}
 use Rattle.gno_method_sets.proofs.Rows.{some_map}
 use Rattle.gno_type_classes.proofs.Found.{keys_of, no_keys}
+use Rattle.gno_type_classes.proofs.TypedParts.{map_typed}
 use Rattle.gno_type_classes.proofs.structure.keys.Goals as goal
 
 pub returns-in-Some-clause-some : goal.returns-in-Some-clause-some
@@ -11,3 +12,6 @@ returns-in-Some-clause-none c e s key value is = no_keys c.args.types.now s c.in
 
 pub returns-in-None-clause-none : goal.returns-in-None-clause-none
 returns-in-None-clause-none c _ s key value is k = c.in-None.ensures.none refl s is (k.underlying, k.by)
+
+pub returns-in-Some-clause-typed : goal.returns-in-Some-clause-typed
+returns-in-Some-clause-typed c = some_map _ _ c.mapped.result (λ it e. map_typed c.args.types.now c.in-Some.row.now c.in-Some.ensures.lawful it.0 it.1 e) c.mapped.ensures.some

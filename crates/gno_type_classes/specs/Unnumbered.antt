@@ -1,0 +1,6 @@
+-- What the typing rules see of a table. This project's own.
+use Rattle.gno_terms.specs.Tables.{Table}
+
+-- The definitions alone. A rule says the same of a table and of each later one that adds types.
+abbrev pub unnumbered : Table → Table
+unnumbered table = table
