@@ -1,7 +1,7 @@
 // Forms and places, with ample memory.
 use crate::{
-    Basics, closed, constant_given, default_constant, held, settled_constant, typed_given, with_logic,
-    with_operation, with_step,
+    Basics, closed, constant_given, default_constant, held, settled_constant, typed_given,
+    with_logic, with_operation, with_step,
 };
 use gno_base::{Kind, List, Shared};
 use gno_constants::Constant;
