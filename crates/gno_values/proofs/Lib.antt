@@ -1,0 +1,2 @@
+pub mod NoValues
+pub mod Values
