@@ -17,7 +17,7 @@ use gno_type_table::TypeTable;
 fn are_found(types: &TypeTable, from: TypeRef, to: TypeRef) -> bool
     ensures from { IsTrue result → Below (length types.now.types) from }
     ensures to { IsTrue result → Below (length types.now.types) to }
-    ensures both { (s u : GoType) → Is types.now from s → Is types.now to u → IsTrue result ↔ (IsComplete (unnumbered types.now) (base s) × IsKnown (unnumbered types.now) u) }
+    ensures both { (s u : GoType) → Is types.now from s → Is types.now to u → IsTrue result ↔ (IsComplete types.now (base s) × IsKnown types.now u) }
 {
     if !types.contains(from) {
         return false;
