@@ -4,14 +4,13 @@ use Rattle.gno_assignability.specs.Assignability.{IsValue, default_kind}
 use Rattle.gno_base.specs.declared.kind.Kind.{Kind}
 use Rattle.gno_base.specs.declared.kind.Kind.TheVariants as k
 use Rattle.gno_constants.specs.declared.constant.Constant.{Constant}
-use Rattle.gno_giving.specs.InTypes.{InTypeStands}
 use Rattle.gno_giving.specs.declared.in_type.InType.{InType}
 use Rattle.gno_judging.specs.Answers.{Answers}
 use Rattle.gno_scan.specs.declared.token.Pos.{Pos}
 use Rattle.gno_terms.specs.Lawful.{IsTyped, is_untyped}
 use Rattle.gno_type_rows.proofs.Pushed.{term_of_type}
 use Rattle.gno_terms.specs.Tables.{Table}
-use Rattle.gno_terms.specs.Terms.{term_of, type_of}
+use Rattle.gno_terms.specs.Terms.{term_of}
 use Rattle.gno_terms.specs.declared.term.GoType.{GoType}
 use Rattle.gno_terms.specs.declared.term.TermOf.{TermOf}
 use Rattle.gno_terms.specs.declared.term.TermOf.TheVariants as t
@@ -20,7 +19,7 @@ use Rattle.gno_typing.specs.Classes.{IsDefault, basic}
 use Rattle.gno_typing.specs.Giving as giving
 use Rattle.gno_typing.specs.Giving.{IsDefaultConstant, in_type}
 use Rattle.gno_typing.specs.Operands.{settled_constant}
-use Rattle.gno_typing.specs.Verdicts.{Verdict, good, wants}
+use Rattle.gno_typing.specs.Verdicts.{good, wants}
 use Rattle.gno_typing.specs.declared.fault.Fault.{Fault}
 use Rattle.gno_typing.specs.declared.form.FormOf.TheVariants as f
 

@@ -1,5 +1,5 @@
 -- Faults that were noted apart, behind others.
-use Rattle.std.proofs.Common.{◌≡◌, refl, sym, ap, ◌∙◌, subst, List, [], ◌∷◌, Bool, true, false, if◌then◌else◌, Option, Some, None, rules}
+use Rattle.std.proofs.Common.{◌≡◌, refl, sym, ap, ◌∙◌, List, [], ◌∷◌, Bool, true, false, if◌then◌else◌, Option, Some, None, rules}
 use Rattle.gno_judging.specs.Noting.{is_before, noted, sooner}
 use Rattle.gno_judging.proofs.Least.{before_is, not_before, not_past, past_at_most, past_past}
 use Rattle.gno_judging.proofs.Noting.{none_is}

@@ -1,6 +1,5 @@
 -- What the rule says of operands that are values, or methods of values.
 use Rattle.std.proofs.Common.{◌≡◌, refl, Bool, Option, Some}
-use Rattle.std.specs.Prelude.{⊤}
 use Rattle.gno_judging.proofs.Answers.{gives}
 use Rattle.gno_judging.proofs.Inversions.{by_method, by_value}
 use Rattle.gno_judging.specs.Answers.{Answers}

@@ -1,4 +1,4 @@
-use Rattle.std.proofs.Common.{refl, sym, ◌∙◌, true, false}
+use Rattle.std.proofs.Common.{sym, ◌∙◌, true, false}
 use Rattle.gno_giving.proofs.Defaults.{settled_by, typed_by, untyped_by}
 use Rattle.gno_giving.specs.InTypes.{InTypeStands}
 use Rattle.gno_judging.proofs.Answers.{gives}

@@ -17,6 +17,11 @@ returns-then-are_found c s u is own =
 pub returns-else-are_found : goal.returns-else-are_found
 returns-else-are_found c s u is own =
     let table = c.args.types.now in
-    let seen = unnumbered table in
-    (λ e. absurd (search (rules, e)), λ h. search (rules, sym c.if-are_found.false
-    ∙ (c.are_found.ensures.both s u is own).1 (complete_same seen table refl (base s) h.complete, (h.implements.underlying, underlying_same seen table refl u h.implements.underlying h.implements.by))))
+    let seen = unnumbered table in (
+      λ e. absurd (search (rules, e)),
+      λ h. search (
+        rules,
+        sym c.if-are_found.false
+            ∙ (c.are_found.ensures.both s u is own).1 (complete_same seen table refl (base s) h.complete, (h.implements.underlying, underlying_same seen table refl u h.implements.underlying h.implements.by)),
+      ),
+    )
