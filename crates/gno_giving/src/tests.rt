@@ -96,13 +96,40 @@ fn values_take_the_types_of_their_places(rt: HostRuntime) -> Result<(), Fail> {
     Ok(())
 }
 
+// Whether an untyped whole number takes the type of a place, and the code of its fault, or 0.
+fn whole_given(
+    alloc: Global,
+    types: &TypeTable,
+    basics: Basics,
+    to: TypeRef,
+    value: i128,
+) -> Result<(bool, u8), AllocError> {
+    let mut faults = Faults::new();
+    let kind = Kind::Int;
+    let value = Constant::Whole(value);
+    let found = constant_given(
+        alloc,
+        types,
+        basics,
+        &mut faults,
+        49,
+        AT,
+        to,
+        AT,
+        kind,
+        value,
+    )?;
+    let given = found.is_some();
+    drop(found);
+    Ok((given, told(&faults)))
+}
+
 #[test]
 fn constants_take_the_types_of_their_places(rt: HostRuntime) -> Result<(), Fail> {
     let alloc = rt.alloc();
     let mut types = TypeTable::new(alloc)?;
     let basics = Basics::new(&mut types)?;
     let any = types.intern(Term::Interface(List::new(alloc)))?;
-    let int = Kind::Int;
     // the place, the untyped constant, and the code of the fault
     let cases: [(TypeRef, i128, u8); 5] = [
         (basics.byte, 255, 0),
@@ -112,24 +139,40 @@ fn constants_take_the_types_of_their_places(rt: HostRuntime) -> Result<(), Fail>
         (basics.text, 7, 49),
     ];
     for (to, value, code) in cases {
-        let mut faults = Faults::new();
-        let value = Constant::Whole(value);
-        let found = constant_given(
-            alloc,
-            &types,
-            basics,
-            &mut faults,
-            49,
-            AT,
-            to,
-            AT,
-            int,
-            value,
-        )?;
-        assert!(rt; found.is_some() == (code == 0));
-        assert!(rt; told(&faults) == code);
+        let found = whole_given(alloc, &types, basics, to, value)?;
+        assert!(rt; found == (code == 0, code));
     }
     Ok(())
+}
+
+// The type that a rune constant has where its place names none.
+fn settled_type(types: &TypeTable, basics: Basics, from: TypeRef) -> Option<TypeRef> {
+    let mut faults = Faults::new();
+    let value = Constant::Whole(97);
+    let x = settled_constant(types, basics, &mut faults, AT, from, value)?;
+    let of = x.of;
+    drop(x);
+    Some(of)
+}
+
+// Whether a boolean constant becomes a value of an interface type.
+fn is_held(
+    alloc: Global,
+    types: &TypeTable,
+    basics: Basics,
+    to: TypeRef,
+) -> Result<bool, AllocError> {
+    let mut faults = Faults::new();
+    let value = Constant::Bool(true);
+    match default_constant(basics, &mut faults, AT, Kind::Bool, value) {
+        Some(x) => {
+            let found = held(alloc, types, &mut faults, 49, AT, to, x)?;
+            let kept = found.is_some();
+            drop(found);
+            Ok(kept)
+        }
+        None => Ok(false),
+    }
 }
 
 #[test]
@@ -139,19 +182,9 @@ fn constants_have_default_types(rt: HostRuntime) -> Result<(), Fail> {
     let basics = Basics::new(&mut types)?;
     let any = types.intern(Term::Interface(List::new(alloc)))?;
     let rune = types.intern(Term::UntypedRune)?;
-    // the type of the constant, and that which it has where no place names one
-    for (from, to) in [(rune, basics.rune), (basics.byte, basics.byte)] {
-        let mut faults = Faults::new();
-        let value = Constant::Whole(97);
-        let found = settled_constant(&types, basics, &mut faults, AT, from, value);
-        assert!(rt; matches!(&found, Some(x) if types.identical(x.of, to)));
-    }
-    let mut faults = Faults::new();
-    let found = default_constant(basics, &mut faults, AT, Kind::Bool, Constant::Bool(true));
-    if let Some(x) = found {
-        let kept = held(alloc, &types, &mut faults, 49, AT, any, x)?;
-        assert!(rt; kept.is_some());
-    }
-    assert!(rt; told(&faults) == 0);
+    assert!(rt; settled_type(&types, basics, rune) == Some(basics.rune));
+    assert!(rt; settled_type(&types, basics, basics.byte) == Some(basics.byte));
+    assert!(rt; is_held(alloc, &types, basics, any)?);
+    assert!(rt; !is_held(alloc, &types, basics, basics.int)?);
     Ok(())
 }
