@@ -1,2 +1,3 @@
 pub mod NoValues
+pub mod PendingRules
 pub mod Values

@@ -1,1 +1,2 @@
 pub mod NoValues
+pub mod Pending

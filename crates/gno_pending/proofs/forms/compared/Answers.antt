@@ -1,0 +1,10 @@
+use Rattle.std.proofs.Common.{refl, sym, subst}
+use Rattle.gno_judging.specs.Stands.{Stands}
+use Rattle.gno_judging.specs.Stands.{OperationsStand as operations}
+use Rattle.gno_typed.specs.declared.expr.TypedExprOf.{TypedExprOf}
+use Rattle.gno_terms.specs.declared.term.TypeRef.{TypeRef}
+use Rattle.gno_pending.proofs.forms.compared.Goals as goal
+
+pub returns-in-Ok : goal.returns-in-Ok
+returns-in-Ok c table u s b x y is operands boxed left right = c.with_operation.ensures.stands table x _ left
+    (operations.one_operation refl is refl operands boxed (subst (λ (z : TypedExprOf TypeRef). Stands table z y) (sym c.in-Ok.ensures) right) operations.no_operation)
