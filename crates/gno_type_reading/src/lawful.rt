@@ -60,8 +60,8 @@ pub fn is_lawful_name(
     }
 }
 
-// Whether the text is a name, which has its package's path unless it is exported.
-fn is_owned_name(alloc: Global, name: &Bytes, path: &Bytes) -> Result<bool, AllocError>
+/// Whether the text is a name, and what it belongs to the path of a package unless it is exported.
+pub fn is_owned_name(alloc: Global, name: &Bytes, path: &Bytes) -> Result<bool, AllocError>
     ensures { IfOk result (λ yes. IsTrue yes ↔ IsOwnedName name.now path.now) }
 {
     if !is_name(name.as_slice()) {

@@ -12,7 +12,8 @@ mod open;
 mod read;
 mod words;
 
-pub use lawful::is_lawful_name;
+pub use lawful::{is_lawful_name, is_owned_name};
+pub use names::is_name;
 pub use read::read_text;
 
 #[cfg(test)]

@@ -13,7 +13,7 @@ use std::str::from_utf8;
 use ucd_category::{GeneralCategory, GeneralCategoryGroup};
 
 /// Whether the text is a name. Go specification, "Identifiers".
-pub(crate) fn is_name(text: &[u8]) -> bool
+pub fn is_name(text: &[u8]) -> bool
     ensures { IsTrue result ↔ IsName text.now }
 {
     is_identifier(text) && !is_keyword(text)

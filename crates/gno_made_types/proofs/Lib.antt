@@ -1,0 +1,3 @@
+pub mod InterfaceRules
+pub mod MadeTypes
+pub mod PartRules

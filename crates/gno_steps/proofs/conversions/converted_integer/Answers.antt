@@ -1,0 +1,33 @@
+use Rattle.std.proofs.Common.{sym, ◌∙◌, rules}
+use Rattle.std.proofs.lemmas.Result.{IfOk-weaker}
+use Rattle.gno_judging.proofs.Answers.{fails, holds, is_not_so, is_so}
+use Rattle.gno_judging.specs.Answers.{Answers}
+use Rattle.gno_judging.specs.Found.{ValueStands}
+use Rattle.gno_steps.specs.Converting.{given_converted}
+use Rattle.gno_type_classes.specs.Unnumbered.{unnumbered}
+use Rattle.gno_typing.specs.Conversions.{converted_integer, converted_typed}
+use Rattle.gno_typing.specs.Giving.{IsDefaulted}
+use Rattle.gno_typing.specs.Verdicts.{After}
+use Rattle.gno_steps.proofs.conversions.converted_integer.Goals as goal
+
+pub returns-then-is_interface : goal.returns-then-is_interface
+returns-then-is_interface c u y basics of h w =
+    let table = c.args.types.now in
+    let seen = unnumbered table in
+    IfOk-weaker c.default_converted.result (λ r. Answers (After (IsDefaulted seen y) (converted_typed seen c.args.place u c.args.calls)) (ValueStands table) c.args.faults.now c.default_converted.new.faults r)
+    (λ r. Answers (converted_integer seen c.args.place u c.args.calls c.args.shift y) (ValueStands table) c.args.faults.now c.default_converted.new.faults r)
+    (λ r k. is_so (ValueStands table) _ _ _ _ _ r ((c.is_interface.ensures u of.is).0 c.if-is_interface.true) k) (c.default_converted.ensures u y basics of h w)
+
+pub returns-then-is_integer : goal.returns-then-is_integer
+returns-then-is_integer c u y basics of h w =
+    let table = c.args.types.now in
+    let seen = unnumbered table in
+    IfOk-weaker c.given_converted.result (λ r. Answers (given_converted seen c.args.place u c.args.calls y) (ValueStands table) c.args.faults.now c.given_converted.new.faults r)
+    (λ r. Answers (converted_integer seen c.args.place u c.args.calls c.args.shift y) (ValueStands table) c.args.faults.now c.given_converted.new.faults r)
+    (λ r k. is_not_so (ValueStands table) _ _ _ _ _ r (λ p. search (rules, sym c.if-is_interface.false ∙ (c.is_interface.ensures u of.is).1 p)) (holds (ValueStands table) _ 46 c.args.shift _ _ _ r ((c.is_integer.ensures u of.is).0 c.if-is_integer.true) k)) (c.given_converted.ensures u y of h)
+
+pub returns-else-is_integer : goal.returns-else-is_integer
+returns-else-is_integer c u y basics of h w =
+    let table = c.args.types.now in
+    is_not_so (ValueStands table) _ _ _ _ _ _ (λ p. search (rules, sym c.if-is_interface.false ∙ (c.is_interface.ensures u of.is).1 p))
+    (fails (ValueStands table) _ 46 c.args.shift _ _ _ (λ p. search (rules, sym c.if-is_integer.false ∙ (c.is_integer.ensures u of.is).1 p)) c.note.ensures)

@@ -1,0 +1,20 @@
+use Rattle.std.proofs.Common.{subst}
+use Rattle.gno_judging.specs.Answers.{Answers}
+use Rattle.gno_judging.specs.Found.{ValueStands}
+use Rattle.gno_steps.proofs.OfValues.{of_it, of_none}
+use Rattle.gno_type_classes.specs.Unnumbered.{unnumbered}
+use Rattle.gno_typing.specs.Operands.{as_value}
+use Rattle.gno_typing.specs.Pointers.{pointed}
+use Rattle.gno_steps.proofs.pointers.pointed_operand.Goals as goal
+
+pub returns-in_ok-found-in-Some : goal.returns-in_ok-found-in-Some
+returns-in_ok-found-in-Some c y h =
+    let table = c.args.types.now in
+    of_it table table y (pointed (unnumbered table) c.args.place) c.args.faults.now c.as_value.new.faults c.pointed.new.faults c.in-Some.value c.in_ok-found-in-Some.found c.as_operand.result
+    (subst (λ r. Answers (as_value y) (ValueStands table) c.args.faults.now c.as_value.new.faults r) c.in-Some.is (c.in_ok-value.ensures table y h)) (λ b is. c.in_ok-found-in-Some.ensures b is) c.as_operand.ensures
+
+pub returns-in-None : goal.returns-in-None
+returns-in-None c y h =
+    let table = c.args.types.now in
+    of_none table table y (pointed (unnumbered table) c.args.place) c.args.faults.now c.as_value.new.faults
+    (subst (λ r. Answers (as_value y) (ValueStands table) c.args.faults.now c.as_value.new.faults r) c.in-None.is (c.in_ok-value.ensures table y h))
