@@ -8,7 +8,7 @@ mod predeclared;
 mod types;
 
 pub use meaning::meaning_of;
-pub use names::{exported, named};
+pub use names::{exported, is_blank, named};
 pub use types::{qualified_type, type_named};
 
 #[cfg(test)]

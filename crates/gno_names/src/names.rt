@@ -73,7 +73,7 @@ pub fn exported(
 }
 
 /// Whether a name is the blank one. Go specification, "Blank identifier".
-pub(crate) fn is_blank(name: &[u8]) -> bool
+pub fn is_blank(name: &[u8]) -> bool
     ensures { result ≡ is_blank name.now }
 {
     name == b"_".as_slice()

@@ -1,14 +1,12 @@
 -- What the rules say of each operand and of each value.
-use Rattle.std.proofs.Common.{◌≡◌, refl, ℕ, List, Bool, false}
+use Rattle.std.proofs.Common.{◌≡◌, refl, ℕ, List, Bool}
 use Rattle.gno_judging.specs.Found.{OperandStands, ValueStands}
 use Rattle.gno_judging.specs.Found.{OperandStands as operand, ValueStands as value}
-use Rattle.gno_judging.proofs.Inversions.{by_typed, by_waiting}
 use Rattle.gno_scan.specs.declared.token.Pos.{Pos}
 use Rattle.gno_selecting.specs.Members.{settled_selected}
 use Rattle.gno_terms.specs.declared.term.GoType.{GoType}
 use Rattle.gno_terms.specs.declared.term.TypeRef.{TypeRef}
 use Rattle.gno_terms.specs.Tables.{Table}
-use Rattle.gno_typing.specs.Binary.{calls_in}
 use Rattle.gno_typing.specs.Names.{Meaning, exported}
 use Rattle.gno_typing.specs.Operands.{as_value}
 use Rattle.gno_typing.specs.Selectors.{selected, selector}
@@ -16,11 +14,9 @@ use Rattle.gno_typing.specs.Verdicts.{Verdict, After, bad}
 use Rattle.gno_typing.specs.declared.form.FormOf.{FormOf}
 use Rattle.gno_typing.specs.declared.operand.OperandOf.{OperandOf}
 use Rattle.gno_typing.specs.declared.operand.OperandOf.TheVariants as o
-use Rattle.gno_typing.specs.declared.pending.PendingOf.{PendingOf}
 use Rattle.gno_typing.specs.declared.value.Standing.{Standing}
 use Rattle.gno_typing.specs.declared.value.ValueOf.{ValueOf}
 use Rattle.gno_typing.specs.declared.value.ValueOf.TheVariants as v
-use Rattle.gno_typing.specs.declared.value.Waits.{Waits}
 
 -- `rules`: what the rules see of the table
 module _ (P : (Verdict (OperandOf GoType) → Type 0) → Type 0) (rules : Table) (place : Pos) (path name : List ℕ) where
@@ -52,18 +48,3 @@ module _ (P : (Verdict (OperandOf GoType) → Type 0) → Type 0) (rules : Table
   other_operand packages table _ _ (operand.builtin at of) not_package not_type h = h
   other_operand packages table _ _ (operand.cross at) not_package not_type h = h
   other_operand packages table _ _ (operand.realm at) not_package not_type h = h
-
--- ---- whether a value holds a call
-
-module _ (table : Table) where
-  pub typed_calls : (at : Pos) (r : TypeRef) (stands : Standing) (calls : Bool) (form : FormOf TypeRef) (x : ValueOf TypeRef) (y : ValueOf GoType) → x ≡ v.Typed at r stands calls form → ValueStands table x y → calls ≡ calls_in y
-  typed_calls at r stands calls form x y e h = by_typed (λ y. calls ≡ calls_in y) table at r stands calls form x y e h (λ s b is own. refl)
-
-  pub waiting_calls : (at : Pos) (waits : Waits) (calls : Bool) (form : PendingOf TypeRef) (x : ValueOf TypeRef) (y : ValueOf GoType) → x ≡ v.Pending at waits calls form → ValueStands table x y → calls ≡ calls_in y
-  waiting_calls at waits calls form x y e h = by_waiting (λ y. calls ≡ calls_in y) table at waits calls form x y e h (λ b own fits. refl)
-
-  pub no_calls : (x : ValueOf TypeRef) (y : ValueOf GoType) → ValueStands table x y → ((at : Pos) (r : TypeRef) (stands : Standing) (calls : Bool) (form : FormOf TypeRef) → x ≡ v.Typed at r stands calls form → ⊥) → ((at : Pos) (waits : Waits) (calls : Bool) (form : PendingOf TypeRef) → x ≡ v.Pending at waits calls form → ⊥) → false ≡ calls_in y
-  no_calls _ _ (value.constant at x is) not_typed not_waiting = refl
-  no_calls _ _ (value.nil at) not_typed not_waiting = refl
-  no_calls _ _ (value.typed at stands calls is form) not_typed not_waiting = absurd (not_typed _ _ _ _ _ refl)
-  no_calls _ _ (value.waiting at waits calls form fits) not_typed not_waiting = absurd (not_waiting _ _ _ _ refl)

@@ -8,7 +8,6 @@ ghost use Rattle.gno_scan.specs.declared.token.Pos.{Pos};
 ghost use Rattle.gno_terms.specs.declared.term.GoType.{GoType};
 ghost use Rattle.gno_terms.specs.Tables.{Is, Table};
 ghost use Rattle.gno_type_classes.specs.Unnumbered.{unnumbered};
-ghost use Rattle.gno_typing.specs.Binary.{calls_in};
 ghost use Rattle.gno_typing.specs.Names.{Meaning};
 ghost use Rattle.gno_typing.specs.Operands.{as_value};
 ghost use Rattle.gno_typing.specs.Selectors.{selected, selected_in, selector};
@@ -25,6 +24,7 @@ use gno_giving::{Basics, InType};
 use gno_judging::Faults;
 use gno_names::exported;
 use gno_scan::Pos;
+use gno_seen::calls_in;
 use gno_terms::TypeRef;
 use gno_type_classes::holder_of;
 use gno_type_table::TypeTable;
@@ -144,17 +144,6 @@ fn settled_selected(
             selected_in(alloc, types, faults, path, place, name, x)
         }
         None => Ok(None),
-    }
-}
-
-// Whether a value holds a call.
-fn calls_in(x: &ValueOf<TypeRef>) -> bool
-    ensures { (table : Table) (y : ValueOf GoType) → ValueStands table x.now y → result ≡ calls_in y }
-{
-    match x {
-        ValueOf::Typed { calls, .. } => *calls,
-        ValueOf::Pending { calls, .. } => *calls,
-        _ => false,
     }
 }
 

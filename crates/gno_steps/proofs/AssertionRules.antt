@@ -6,7 +6,7 @@ use Rattle.gno_judging.specs.Found.{FormStands, TypeStands, ValueStands}
 use Rattle.gno_judging.specs.Found.{ValueStands as value}
 use Rattle.gno_judging.specs.Noting.{noted}
 use Rattle.gno_scan.specs.declared.token.Pos.{Pos}
-use Rattle.gno_steps.proofs.Others.{NotTyped, by_no_typed}
+use Rattle.gno_seen.proofs.Others.{NotTyped, by_no_typed}
 use Rattle.gno_terms.specs.Tables.{Table}
 use Rattle.gno_terms.specs.declared.term.GoType.{GoType}
 use Rattle.gno_terms.specs.declared.term.TypeRef.{TypeRef}

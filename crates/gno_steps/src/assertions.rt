@@ -13,10 +13,10 @@ ghost use Rattle.gno_typing.specs.declared.value.ValueOf.TheVariants as v;
 ghost use Rattle.gno_scan.specs.declared.token.Pos.{Pos};
 ghost use Rattle.gno_typing.specs.declared.value.Standing.{Standing};
 
-use crate::values::as_operand;
 use gno_giving::with_step;
 use gno_judging::Faults;
 use gno_scan::Pos;
+use gno_seen::as_operand;
 use gno_terms::TypeRef;
 use gno_type_classes::{has, is_interface};
 use gno_type_table::TypeTable;

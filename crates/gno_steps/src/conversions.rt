@@ -26,13 +26,13 @@ ghost use Rattle.gno_typing.specs.declared.value.ValueOf.TheVariants as v;
 ghost use Rattle.gno_typing.specs.declared.value.ValueOf.{ValueOf};
 
 use crate::characters::text_of;
-use crate::values::as_operand;
 use gno_base::Shared;
 use gno_constants::Constant;
 use gno_giving::{Basics, InType, closed, settled_constant};
 use gno_judging::Faults;
 use gno_pending::{defaulted, given_type};
 use gno_scan::Pos;
+use gno_seen::as_operand;
 use gno_terms::TypeRef;
 use gno_type_classes::{
     converts, fits, has_nil, is_basic, is_boolean, is_integer, is_interface, is_representable,

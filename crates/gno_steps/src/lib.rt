@@ -5,7 +5,6 @@ mod assertions;
 mod characters;
 mod conversions;
 mod pointers;
-mod values;
 
 pub use assertions::assertion;
 pub use conversions::conversion;

@@ -17,12 +17,12 @@ ghost use Rattle.gno_typing.specs.declared.value.Standing.{Standing};
 ghost use Rattle.gno_typing.specs.declared.value.ValueOf.TheVariants as v;
 ghost use Rattle.gno_typing.specs.declared.value.ValueOf.{ValueOf};
 
-use crate::values::as_operand;
 use gno_base::Shared;
 use gno_giving::closed;
 use gno_judging::Faults;
 use gno_made_types::pointer_to;
 use gno_scan::Pos;
+use gno_seen::as_operand;
 use gno_terms::TypeRef;
 use gno_type_classes::follows;
 use gno_type_table::TypeTable;

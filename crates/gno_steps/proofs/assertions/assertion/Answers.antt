@@ -2,7 +2,7 @@ use Rattle.std.proofs.Common.{subst}
 use Rattle.gno_judging.specs.Answers.{Answers}
 use Rattle.gno_judging.specs.Found.{OperandStands, ValueStands}
 use Rattle.gno_steps.proofs.AssertionRules.{the_assertion}
-use Rattle.gno_steps.proofs.OfValues.{of_it, of_none}
+use Rattle.gno_seen.proofs.OfValues.{of_it, of_none}
 use Rattle.gno_type_classes.specs.Unnumbered.{unnumbered}
 use Rattle.gno_typing.specs.Assertions.{asserted}
 use Rattle.gno_typing.specs.Operands.{as_value}

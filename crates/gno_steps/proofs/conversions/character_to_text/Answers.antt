@@ -8,7 +8,7 @@ use Rattle.gno_judging.proofs.Answers.{fails, gives, holds}
 use Rattle.gno_judging.specs.Found.{ValueStands}
 use Rattle.gno_judging.specs.Found.{ValueStands as value}
 use Rattle.gno_steps.proofs.ConversionRules.{a_character, a_text}
-use Rattle.gno_steps.proofs.ConstantTypes.{of_constants}
+use Rattle.gno_seen.proofs.ConstantTypes.{of_constants}
 use Rattle.gno_type_classes.specs.Unnumbered.{unnumbered}
 use Rattle.gno_typing.specs.declared.value.ValueOf.TheVariants as v
 use Rattle.gno_steps.proofs.conversions.character_to_text.Goals as goal

@@ -4,7 +4,7 @@ use Rattle.gno_judging.proofs.Answers.{fails, gives, holds, is_not_so, is_so}
 use Rattle.gno_judging.specs.Answers.{Answers}
 use Rattle.gno_judging.specs.Found.{ValueStands}
 use Rattle.gno_judging.specs.Found.{ValueStands as value}
-use Rattle.gno_steps.proofs.ConstantTypes.{of_constants}
+use Rattle.gno_seen.proofs.ConstantTypes.{of_constants}
 use Rattle.gno_steps.specs.Converting.{character_converted}
 use Rattle.gno_type_classes.specs.Unnumbered.{unnumbered}
 use Rattle.gno_typing.specs.Conversions.{constant_to_basic}

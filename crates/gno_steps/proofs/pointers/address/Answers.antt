@@ -1,7 +1,7 @@
 use Rattle.std.proofs.Common.{subst, None}
 use Rattle.gno_judging.specs.Answers.{Answers}
 use Rattle.gno_judging.specs.Found.{OperandStands, ValueStands}
-use Rattle.gno_steps.proofs.OfValues.{of_it, of_none}
+use Rattle.gno_seen.proofs.OfValues.{of_it, of_none}
 use Rattle.gno_steps.proofs.PointerRules.{address_is}
 use Rattle.gno_typing.specs.Operands.{as_value}
 use Rattle.gno_typing.specs.Pointers.{addressed}

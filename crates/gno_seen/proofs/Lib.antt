@@ -1,0 +1,4 @@
+pub mod ConstantTypes
+pub mod OfValues
+pub mod Others
+pub mod Seen
