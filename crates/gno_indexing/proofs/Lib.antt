@@ -1,0 +1,3 @@
+pub mod CountingRules
+pub mod IndexRules
+pub mod Made
